@@ -1,0 +1,3 @@
+pub mod Quotients
+pub mod Ranges
+pub mod Sized

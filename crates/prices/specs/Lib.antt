@@ -1,0 +1,7 @@
+pub mod Cents
+pub mod Figures
+pub mod Laws
+pub mod Prices
+pub mod Returns
+pub mod Rounding
+pub mod Variance
