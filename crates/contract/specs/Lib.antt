@@ -1,0 +1,4 @@
+pub mod Calls
+pub mod Formulas
+pub mod Sound
+pub mod Step
