@@ -1,0 +1,10 @@
+pub mod Elements
+pub mod Halves
+pub mod Laws
+pub mod Memory
+pub mod Order
+pub mod Places
+pub mod Shifts
+pub mod Sums
+pub mod Told
+pub mod Values

@@ -1,0 +1,5 @@
+pub mod Laws
+pub mod Places
+pub mod Records
+pub mod Rising
+pub mod View
