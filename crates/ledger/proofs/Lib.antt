@@ -1,0 +1,5 @@
+pub mod Checks
+pub mod Money
+pub mod Refused
+pub mod Paid
+pub mod Totals
