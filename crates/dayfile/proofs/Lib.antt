@@ -1,0 +1,3 @@
+mod Membership
+mod Notes
+mod Turns
