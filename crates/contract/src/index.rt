@@ -8,8 +8,8 @@ ghost use Rattle.contract.specs.Formulas.{admits as admitsAfter, keep as keepI
 ghost use Rattle.contract.specs.Sound.{value-or-one};
 use crate::figures::IndexRecord;
 use faults::Refusal;
-use quantities::Within;
 use prices::returns::Return;
+use quantities::Within;
 
 impl IndexRecord {
     // The record with a day's value, unless that value is not admitted after the last.

@@ -6,11 +6,11 @@ ghost use Rattle.prices.specs.Prices.{bearing as bearingOf};
 ghost use Rattle.contract.specs.Formulas.{closePrice};
 use crate::figures::Figures;
 use crate::figures::IndexRecord;
-use quantities::Within;
 use prices::price::AccumulatedReturn;
 use prices::price::Price;
 use prices::price::mark;
 use prices::variance::Returns;
+use quantities::Within;
 
 // F, from the mark of bid and offer, with the day's return counted in `index`.
 pub(crate) fn settlement_price(figures: Figures, index: IndexRecord, bid: u32, offer: u32) -> Price

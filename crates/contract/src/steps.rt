@@ -17,10 +17,10 @@ use crate::settlement::settlement_price;
 use faults::Fault;
 use faults::FaultFromRefusal;
 use faults::Refusal;
-use quantities::Within;
 use prices::price::AccumulatedReturn;
 use prices::price::BASE_PRICE;
 use prices::price::Price;
+use quantities::Within;
 
 const NO_VALUES: IndexRecord = IndexRecord {
     last: None,

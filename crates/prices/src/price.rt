@@ -3,13 +3,13 @@ ghost use mathlib.Core.Path.{_≡_};
 ghost use Prim.Native.Nat.{_+_, _*_, _^_, _<_, _≤_};
 ghost use lib.IntN.{natAbs, pos, _+ℤ_, _-ℤ_, _*ℤ_};
 ghost use Rattle.prices.specs.Prices.{mark as markOf, converted as convertedOf, final as finalOf, bearing as bearingOf, accrual as accrualOf};
+use crate::rounding::nearest_signed;
+use crate::variance::Variance;
 use quantities::DiscountFactor;
 use quantities::Rate;
 use quantities::Strike;
 use quantities::Tick;
 use quantities::Within;
-use crate::rounding::nearest_signed;
-use crate::variance::Variance;
 
 // The price of a variance at the strike, before any return has accumulated: 1,000 points.
 pub const BASE_PRICE: i64 = 10_000_000;

@@ -3,11 +3,11 @@ ghost use mathlib.Core.Path.{_≡_};
 ghost use Prim.Native.Nat.{_+_, _-_, _*_, _<_, _≤_};
 ghost use Rattle.std.specs.declared.option.Option.the-variants.{Some, None};
 ghost use Rattle.prices.specs.Variance.{volatility as volatilityOf, varianceAt, realised as realisedOf, units as unitsOf};
+use crate::rounding::nearest;
+use crate::rounding::up;
 use quantities::ExpectedValues;
 use quantities::Tick;
 use quantities::Vega;
-use crate::rounding::nearest;
-use crate::rounding::up;
 
 // Trading days in a year, over which daily squares are a yearly variance.
 const TRADING_DAYS: u64 = 252;

@@ -38,6 +38,7 @@ pub const HIGHEST_INDEX_VALUE: u32 = 9_999_999;
 
 // The numbers that accounts may have.
 pub const LOWEST_ACCOUNT_NUMBER: u32 = 1;
+
 pub const HIGHEST_ACCOUNT_NUMBER: u32 = 16_383;
 
 // Hundredths of a percent.
@@ -65,6 +66,7 @@ pub type Tick = Within<LOWEST_TICK, HIGHEST_TICK>;
 pub type IndexValue = Within<LOWEST_INDEX_VALUE, HIGHEST_INDEX_VALUE>;
 
 pub type AccountNumber = Within<LOWEST_ACCOUNT_NUMBER, HIGHEST_ACCOUNT_NUMBER>;
+
 pub type Rate = Within<LOWEST_RATE, HIGHEST_RATE>;
 
 impl<const LOW: u32, const HIGH: u32> Within<LOW, HIGH> {
