@@ -73,6 +73,52 @@ mod tests {
         expect(&rt, &[0x4000_4002, 0x57FF_F001], "R 0 trade 6 0\n")
     }
 
+    // Both sides of the limits of a listing and an opening.
+    #[test]
+    fn listing_limits(rt: LibcRuntime) -> Result<(), Fail> {
+        expect(&rt, &[0x1000_0002, 0x2000_0001], "R 0 list 1 0\n")?;
+        expect(&rt, &[0x1000_0003, 0x2000_0001, 0x3000_0001], "")?;
+        expect(&rt, &[0x1000_0400, 0x2EE6_B280, 0x35F5_E100], "")?;
+        expect(&rt, &[0x1000_0401, 0x2EE6_B280], "R 0 list 1 0\n")?;
+        expect(&rt, &[0x1000_0003, 0x2EE6_B281], "R 0 list 2 0\n")?;
+        expect(
+            &rt,
+            &[0x1000_0003, 0x2000_0001, 0x3000_0000],
+            "R 2 open 3 0\n",
+        )?;
+        expect(
+            &rt,
+            &[0x1000_0003, 0x2000_0001, 0x35F5_E101],
+            "R 2 open 3 0\n",
+        )
+    }
+
+    // Figures within their limits go on to the phase, which admits none of these calls before a listing.
+    #[test]
+    fn trade_and_rate_limits(rt: LibcRuntime) -> Result<(), Fail> {
+        expect(&rt, &[0x4000_4002, 0x5000_0001], "R 0 trade 6 0\n")?;
+        expect(&rt, &[0x4000_4002, 0x5000_1001], "R 0 trade 31 0\n")?;
+        expect(&rt, &[0x4000_4002, 0x54E2_0FA0], "R 0 trade 31 0\n")?;
+        expect(&rt, &[0x4000_4002, 0x54E2_1FA0], "R 0 trade 6 0\n")?;
+        expect(&rt, &[0x4000_4002, 0x5000_1000], "R 0 trade 7 0\n")?;
+        expect(&rt, &[0x4000_4002, 0x5000_1FA1], "R 0 trade 7 0\n")?;
+        expect(&rt, &[0x9000_07D0], "R 0 accrue 31 0\n")?;
+        expect(&rt, &[0x9000_07D1], "R 0 accrue 10 0\n")
+    }
+
+    #[test]
+    fn close_and_settle_limits(rt: LibcRuntime) -> Result<(), Fail> {
+        expect(&rt, &[0x7000_0001, 0x8000_4001], "R 0 close 31 0\n")?;
+        expect(&rt, &[0x7098_967F, 0x83E8_0FA0], "R 0 close 31 0\n")?;
+        expect(&rt, &[0x7098_9680, 0x83E8_0FA0], "R 0 close 9 0\n")?;
+        expect(&rt, &[0x7000_0001, 0x8000_0001], "R 0 close 7 0\n")?;
+        expect(&rt, &[0x7000_0001, 0x83E8_0FA1], "R 0 close 7 0\n")?;
+        expect(&rt, &[0x7000_0001, 0x8000_8001], "R 0 close 8 0\n")?;
+        expect(&rt, &[0xA098_967F], "R 0 settle 31 0\n")?;
+        expect(&rt, &[0xA098_9680], "R 0 settle 9 0\n")?;
+        expect(&rt, &[0xA000_0000], "R 0 settle 13 0\n")
+    }
+
     // An account is checked by its number, then by the phase.
     #[test]
     fn accounts(rt: LibcRuntime) -> Result<(), Fail> {
