@@ -1,16 +1,15 @@
 -- Lists of accounts.
-use Rattle.std.proofs.Common.{◌≡◌, ℕ, zero, suc, ◌+◌, ◌<◌, ◌≤◌, Bool, true, false, cond, ◌&&◌, ◌||◌, eqb, ltb, leb, ◌⊎◌, List, [], ◌∷◌, ◌++◌, length, get_or, take, drop, set, is_some, Some, None, Ok, Err, fold, Option, Result, sym, refl, ap, ◌∙◌, inl, inr, arith}
+use Rattle.std.proofs.Common.{◌≡◌, ℕ, zero, suc, ◌+◌, ◌<◌, ◌≤◌, Bool, true, false, cond, ◌&&◌, ◌||◌, eqb, ltb, leb, ◌⊎◌, List, [], ◌∷◌, ◌++◌, length, get_or, take, drop, set, is_some, Some, None, fold, Option, sym, refl, ap, ◌∙◌, inl, inr, arith}
 use Rattle.std.proofs.lemmas.List.{append-nil, append_assoc, length-take, at_drop_more, at_drop_all, length-take-le, get_or-take, take_more_set, length-append, take_more, take-append-drop, get_or_at, length_push, take_all}
 use Rattle.std.proofs.lemmas.List.Sums.{fold_more}
-use Rattle.std.proofs.lemmas.Bool.{eq-eqb, ne_eqb, le-leb, lt-leb, lt-ltb, le-ltb, ltb-false, or_right, cases_Bool, eqb-true}
-use Rattle.faults.specs.Checks.{first_fault, verdict}
+use Rattle.std.proofs.lemmas.Bool.{eq-eqb, ne_eqb, le-leb, lt-leb, or_right, cases_Bool, eqb-true}
 use Rattle.faults.specs.declared.Fault.{Fault}
 use Rattle.faults.specs.declared.Refusal.TheVariants.{AccountNumber, NoAccountPlace}
 use Rattle.ledger.specs.Limits.{admitted}
 use Rattle.balances.specs.declared.accounts.Accounts.{Accounts}
 use Rattle.balances.specs.declared.place.Place.{Place}
 use Rattle.balances.specs.Accounts.{Finds, listed}
-use Rattle.balances.specs.Lists.{First, add_new, all_admitted, different, has, list_fault, on_list, place_check, unless}
+use Rattle.balances.specs.Lists.{First, add_new, all_admitted, different, has, list_fault, on_list, unless}
 
 -- ---- what a list has
 
@@ -77,33 +76,6 @@ sixty_fifth xs s i a h at d new n =
     let g = grows (drop (i + 1) xs) (s ++ a ∷ []) in
     let w : different xs ≡ s ++ (a ∷ g.0) = different-more xs (i + 1) ∙ ap (λ t. fold add_new t (drop (i + 1) xs)) e ∙ g.1 ∙ append_assoc s (a ∷ []) g.0 in
     (rw w (rw (length-append s (a ∷ g.0)) (omega arith)), ap (λ t. get_or t 64 0) w ∙ get_or_at s a g.0 0 64 n)
-
--- ---- one more account
-
-pub joins : (xs : List ℕ) (a : ℕ) → has xs a ≡ true → (place_check xs a).passes ≡ true
-joins xs a e = simp e
-
-pub has_room : (xs : List ℕ) (a : ℕ) → length xs < 64 → (place_check xs a).passes ≡ true
-has_room xs a h = or_right (has xs a) (ltb (length xs) 64) (lt-ltb (length xs) 64 h)
-
-pub no_room : (xs : List ℕ) (a : ℕ) → has xs a ≡ false → length xs ≡ 64 → (place_check xs a).passes ≡ false
-no_room xs a e n = let t : ltb (length xs) 64 ≡ false = le-ltb (length xs) 64 (omega arith) in simp (e, t)
-
-full_by : (xs : List ℕ) (a : ℕ) (known room : Bool) → (known || room) ≡ false → (known ≡ false) × (room ≡ false)
-full_by xs a true room e = absurd (let z : ◌≡◌ {A = ℕ} 0 1 = cc in omega arith)
-full_by xs a false room e = (refl, e)
-
--- what a refusal of one more account tells
-pub refused_new : (xs : List ℕ) (a : ℕ) (fault : Fault) (r : Result (Unit {0}) Fault) → length xs ≤ 64 → r ≡ Err fault → r ≡ verdict tt (first_fault (place_check xs a ∷ []))
-    → (fault ≡ record { refusal = NoAccountPlace; account = a }) × (has xs a ≡ false) × (length xs ≡ 64)
-refused_new xs a fault r le is answer = by (place_check xs a).passes refl
-  where
-    by : (b : Bool) → (place_check xs a).passes ≡ b → (fault ≡ record { refusal = NoAccountPlace; account = a }) × (has xs a ≡ false) × (length xs ≡ 64)
-    by true e = absurd (let z : ◌≡◌ {A = ℕ} 0 1 = cc in omega arith)
-    by false e =
-        let p = full_by xs a (has xs a) (ltb (length xs) 64) e in
-        let n = ltb-false (length xs) 64 p.1 in
-        (cc, p.0, omega arith)
 
 -- ---- refusals of a list
 

@@ -4,4 +4,3 @@ pub mod Accounts
 pub mod Lookup
 pub mod Table
 pub mod Sound
-pub mod Ledger

@@ -1,5 +1,5 @@
 -- A list of accounts: which it has, and when it is refused.
-use Rattle.std.specs.Prelude.{◌≡◌, ℕ, ◌<◌, Bool, true, false, cond, ◌&&◌, ◌||◌, List, [], ◌∷◌, ◌++◌, length, Some, None, fold, Option, ◌==◌, ◌≢◌, nat_le, nat_lt, slice_index, slice_index_or}
+use Rattle.std.specs.Prelude.{◌≡◌, ℕ, ◌<◌, Bool, true, false, cond, ◌&&◌, ◌||◌, List, [], ◌∷◌, ◌++◌, length, Some, None, Ok, Err, fold, Option, Result, ◌==◌, ◌≢◌, nat_le, slice_index, slice_index_or}
 use Rattle.faults.specs.declared.Fault.{Fault}
 use Rattle.faults.specs.declared.Refusal.TheVariants.{AccountNumber, NoAccountPlace}
 use Rattle.faults.specs.Checks.{Check, check, first_fault}
@@ -42,6 +42,7 @@ pub record First (xs : List ℕ) (a i : ℕ) : Type 0 where
   pub here : slice_index_or xs i 0 ≡ a
   pub earlier : (k : ℕ) → k < i → slice_index xs k ≢ a
 
--- 37, of one more account: one that the list has needs no place
-abbrev pub place_check : List ℕ → ℕ → Check
-place_check xs a = check (has xs a || nat_lt (length xs) places) NoAccountPlace a
+-- an account is added to xs, or finds no place
+abbrev pub Adds : {U : Type 0} → List ℕ → ℕ → Result U Fault → List ℕ → Type 0
+Adds xs a (Ok u) ys = ys ≡ add_new xs a
+Adds xs a (Err fault) ys = (fault ≡ record { refusal = NoAccountPlace; account = a }) × (has xs a ≡ false) × (length xs ≡ places) × (ys ≡ xs)

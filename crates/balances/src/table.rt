@@ -1,12 +1,10 @@
 ghost use Rattle.std.specs.Prelude.{◌≡◌};
 ghost use Rattle.balances.specs.Accounts.{listed};
-ghost use Rattle.balances.specs.Ledger.{Unpaid, meaning_of};
 ghost use Rattle.balances.specs.Sound.{table_sound};
 ghost use Rattle.balances.specs.Table.{NewTable, table_reading};
 ghost use Rattle.ledger.specs.Sound.{widest_bounded};
 ghost use Rattle.ledger.specs.Totals.{widest};
 
-use crate::accounts::Accounts;
 use crate::balance::Balance;
 use crate::rows::Rows;
 use faults::{Fault, Refusal};
@@ -23,15 +21,6 @@ pub struct BalanceTable {
 const CAPACITY: u64 = 64;
 
 impl BalanceTable {
-    // A table of these accounts, with balances of 0.
-    pub fn of(accounts: Accounts) -> BalanceTable
-        ensures { Unpaid (listed accounts) (meaning_of result) }
-    {
-        BalanceTable {
-            rows: Rows::of(accounts, Balance { value: 0 }),
-        }
-    }
-
     // A table of the accounts of a list, with balances of 0. A refused list makes a table that knows none.
     pub fn new(list: &[u32]) -> BalanceTable
         ensures { NewTable list.now (table_reading (listed result.rows.accounts) result.rows.rows) }

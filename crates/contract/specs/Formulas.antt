@@ -1,8 +1,8 @@
 -- The formulas over a contract's figures. Ne is the number of expected values, k0 the strike, DF the discount factor, A the accumulated return.
 use Rattle.std.specs.Prelude.{ℕ, ◌+◌, Bool, true, ℤ, Some, None, Option}
 use Rattle.prices.specs.Returns.{admitted, return_of, square_of}
-use Rattle.prices.specs.Variance.{variance_at, realised, units}
-use Rattle.prices.specs.Prices.{mark, converted, final, accrual}
+use Rattle.prices.specs.Variance.{variance_at}
+use Rattle.prices.specs.Prices.{mark, converted, accrual}
 use Rattle.contract.specs.declared.figures.IndexRecord.{IndexRecord}
 
 -- U, of two values in a row
@@ -28,10 +28,6 @@ abbrev pub admits : Option ℕ → Option ℕ → Bool
 admits last None = true
 admits last (Some v) = follows last v
 
--- the units of a trade
-unfoldable pub units_of : ℕ → IndexRecord → ℕ → ℕ → ℕ
-units_of Ne x vega tick = units Ne x.returns vega tick
-
 -- the converted price of a tick
 unfoldable pub price_of : ℕ → ℕ → ℕ → IndexRecord → ℤ → ℕ → ℤ
 price_of Ne k0 DF x A tick = converted DF (variance_at Ne x.returns x.sum_of_squares tick) k0 A
@@ -43,11 +39,3 @@ close_price Ne k0 DF x A bid offer = price_of Ne k0 DF x A (mark bid offer)
 -- what an accrual adds to A
 unfoldable pub growth : ℤ → ℤ → ℕ → ℤ
 growth F A rate = accrual F A rate
-
--- V, the realised variance
-unfoldable pub variance_of : ℕ → IndexRecord → ℕ
-variance_of Ne x = realised Ne x.sum_of_squares
-
--- the final settlement price F, at the realised variance V
-unfoldable pub final_price : ℕ → ℕ → ℤ → ℤ
-final_price V k0 A = final V k0 A

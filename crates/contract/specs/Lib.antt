@@ -1,11 +1,4 @@
-pub mod Admission
-pub mod Book
 pub mod Calls
-pub mod CashLaw
 pub mod Formulas
-pub mod History
-pub mod Outcome
-pub mod Pricing
 pub mod Sound
 pub mod Step
-pub mod Tally

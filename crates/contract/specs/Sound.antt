@@ -1,7 +1,7 @@
 -- What always holds of a contract's figures, where it depends on the phase.
 use Rattle.std.specs.Prelude.{ℕ, ◌-◌, Some, None, Option}
 use Rattle.contract.specs.declared.figures.Phase.{Phase}
-use Rattle.contract.specs.declared.figures.Phase.TheVariants.{Unlisted, Ready, Trading, Closed, Settled}
+use Rattle.contract.specs.declared.figures.Phase.TheVariants.{Unlisted, Ready, Trading, Closed}
 
 -- the least number of expected values, and the least strike: none before the listing
 abbrev pub least_expected : Phase → ℕ
@@ -9,30 +9,26 @@ least_expected Unlisted = 0
 least_expected Ready = 3
 least_expected Trading = 3
 least_expected Closed = 3
-least_expected Settled = 3
 
 abbrev pub least_strike : Phase → ℕ
 least_strike Unlisted = 0
 least_strike Ready = 1
 least_strike Trading = 1
 least_strike Closed = 1
-least_strike Settled = 1
 
--- the discount factor of the day that is open
+-- a discount factor is there from the opening on
 abbrev pub least_discount : Phase → ℕ
 least_discount Unlisted = 0
 least_discount Ready = 0
 least_discount Trading = 1
-least_discount Closed = 0
-least_discount Settled = 0
+least_discount Closed = 1
 
--- the closes still owed by the day that is open
+-- the closes still owed by the day under way
 abbrev pub pending : Phase → ℕ
 pending Unlisted = 0
 pending Ready = 0
 pending Trading = 1
 pending Closed = 0
-pending Settled = 0
 
 -- the phase Closed comes only after a close
 abbrev pub least_closes : Phase → ℕ
@@ -40,7 +36,6 @@ least_closes Unlisted = 0
 least_closes Ready = 0
 least_closes Trading = 0
 least_closes Closed = 1
-least_closes Settled = 0
 
 -- one accrual for each close, but in the phase Closed the last is still to come
 abbrev pub accruals : Phase → ℕ → ℕ
@@ -48,7 +43,6 @@ accruals Unlisted closes = closes
 accruals Ready closes = closes
 accruals Trading closes = closes
 accruals Closed closes = closes - 1
-accruals Settled closes = closes
 
 -- what bears interest: near to the discounted variance at a close, and within reach of price and accumulated return at any time
 abbrev pub most_bearing : Phase → ℕ
@@ -56,15 +50,6 @@ most_bearing Unlisted = 50000000000000
 most_bearing Ready = 50000000000000
 most_bearing Trading = 50000000000000
 most_bearing Closed = 21000000005000
-most_bearing Settled = 50000000000000
-
--- the value of the settlement, besides those of the closes
-abbrev pub final_values : Phase → ℕ
-final_values Unlisted = 0
-final_values Ready = 0
-final_values Trading = 0
-final_values Closed = 0
-final_values Settled = 1
 
 -- how many values are kept beyond the returns between them
 abbrev pub unpaired : Option ℕ → ℕ

@@ -48,10 +48,6 @@ pub enum CallName {
 #[derive(Clone, Copy)]
 pub enum Answer {
     Done,
-    // The price is in ten-thousandths of a point.
-    Traded { ticket: u32, units: u32, price: i64 },
-    // The realised variance V.
-    Published { variance: u32 },
 }
 
 impl Call {

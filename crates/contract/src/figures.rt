@@ -5,7 +5,6 @@ pub enum Phase {
     Ready,
     Trading,
     Closed,
-    Settled,
 }
 
 // The index values kept: the last of them, and the returns between them.
@@ -31,6 +30,4 @@ pub struct Figures {
     pub price: i64,
     // The accumulated return A.
     pub accumulated: i64,
-    // The tickets given so far, those of busted trades too.
-    pub trades: u32,
 }

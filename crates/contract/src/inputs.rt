@@ -1,7 +1,7 @@
 // What is checked of a call's own figures, whatever the phase.
 ghost use Rattle.std.specs.Prelude.{◌≡◌};
 ghost use Rattle.faults.specs.Checks.{first_fault, verdict};
-ghost use Rattle.contract.specs.Admission.{input_checks, value_checks};
+ghost use Rattle.contract.specs.Step.{input_checks, value_checks};
 
 use crate::calls::Call;
 use faults::{Fault, Refusal};

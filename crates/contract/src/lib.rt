@@ -1,15 +1,12 @@
 // A variance futures contract: its calls, the phase that admits each, and what each does in place.
 pub mod calls;
-mod closing;
 pub mod contract;
 pub mod faults;
 pub mod figures;
 mod index;
 mod inputs;
-mod listing;
-mod pricing;
+mod settlement;
 mod steps;
-mod trading;
 
 pub use calls::{Answer, Call, CallName};
 pub use contract::Contract;

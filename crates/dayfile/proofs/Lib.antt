@@ -1,3 +1,3 @@
-mod Living
-mod Paying
-mod Printing
+mod Membership
+mod Notes
+mod Turns

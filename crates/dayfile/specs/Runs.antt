@@ -1,68 +1,65 @@
 -- A run over a day file, item by item.
-use Rattle.std.specs.Prelude.{◌≡◌, ℕ, ◌+◌, ◌/◌, true, false, ◌⊎◌, List, [], ◌++◌, length, Some, None, Ok, Err, Option, Result}
-use Rattle.balances.specs.Lists.{add_new}
-use Rattle.balances.specs.declared.table.BalanceTable.{BalanceTable}
-use Rattle.balances.specs.Ledger.{Unpaid, meaning_of}
-use Rattle.contract.specs.Book.{Book, book_of, with_ledger}
-use Rattle.contract.specs.declared.contract.Contract.{Contract}
+use Rattle.std.specs.Prelude.{◌≡◌, ℕ, ◌+◌, ◌-◌, ◌/◌, true, false, ◌⊎◌, List, ◌++◌, length, is_some, Some, None, Ok, Err, Option, Result}
 use Rattle.contract.specs.declared.calls.Answer.{Answer}
 use Rattle.contract.specs.declared.calls.Call.{Call}
+use Rattle.contract.specs.declared.calls.Call.TheVariants as call
+use Rattle.contract.specs.declared.figures.Figures.{Figures}
 use Rattle.contract.specs.Step.{Step}
-use Rattle.dayfile.specs.Accounts.{account_checks}
+use Rattle.dayfile.specs.Accounts.{account_checks, noted}
 use Rattle.dayfile.specs.declared.faults.Cause.{Cause}
 use Rattle.dayfile.specs.declared.faults.Cause.TheVariants as cause
 use Rattle.dayfile.specs.declared.faults.FileFault.{FileFault}
 use Rattle.dayfile.specs.declared.lines.Line.{Line}
+use Rattle.dayfile.specs.declared.lines.Line.TheVariants.{Close}
 use Rattle.dayfile.specs.declared.reader.Item.{Item}
 use Rattle.dayfile.specs.declared.reader.Item.TheVariants as item
 use Rattle.dayfile.specs.declared.reader.Placed.{Placed}
 use Rattle.dayfile.specs.declared.reader.Read.{Read}
-use Rattle.dayfile.specs.Lines.{lines_of}
 use Rattle.dayfile.specs.Words.{item_at, of_length, wrong_length}
 use Rattle.faults.specs.Checks.{first_fault}
 use Rattle.faults.specs.declared.Fault.{Fault}
-use Rattle.ledger.specs.Meaning.{Meaning}
-use Rattle.positions.specs.declared.records.Account.{Account}
-use Rattle.positions.specs.declared.records.Trade.{Trade}
-use Rattle.table.specs.declared.ordered.Table.{Table}
+use Rattle.std.specs.Option.{option_to_list}
 
--- what a run changes: the book, the accounts named for its balance table, and the lines of the sheet
+-- what a run changes: the contract's figures, the accounts noted, and the lines of the sheet
 pub record State : Type 0 where
-  pub book : Book
+  pub figures : Figures
   pub accounts : List ℕ
   pub lines : List Line
 
-abbrev pub state : Book → List ℕ → List Line → State
-state b accounts lines = record { book = b; accounts = accounts; lines = lines }
+abbrev pub state : Figures → List ℕ → List Line → State
+state f accounts lines = record { figures = f; accounts = accounts; lines = lines }
 
--- what a contract and what the run is lent beside it make together
-abbrev pub state_of : Contract → Table Account → Table Trade → BalanceTable → List ℕ → List Line → State
-state_of contract accounts trades ledger named lines = state (book_of contract.figures accounts trades (meaning_of ledger)) named lines
+abbrev pub Unchanged : State → State → Type 0
+Unchanged s s' = (s'.figures ≡ s.figures) × (s'.accounts ≡ s.accounts) × (s'.lines ≡ s.lines)
+
+-- the line of an accepted call, with the figures after it: a close has the day from 0, F and A
+abbrev pub line_of : Call → Figures → Option Line
+line_of (call.List Ne k0) f = None
+line_of (call.Open DF) f = None
+line_of (call.Trade buyer seller vega tick) f = None
+line_of (call.Bust ticket) f = None
+line_of (call.Close value bid offer) f = Some (Close (f.closes - 1) f.price f.accumulated)
+line_of (call.Accrue rate) f = None
+line_of (call.Settle value) f = None
 
 -- ---- one item, from the state s to s'
 
--- the balance table is made anew, of the accounts named so far
-pub record Noted (s : State) (account : ℕ) (s' : State) : Type 0 where
-  pub ledger : Meaning
-  pub unpaid : Unpaid (add_new s.accounts account) ledger
-  pub after : s' ≡ state (with_ledger ledger s.book) (add_new s.accounts account) s.lines
-
 -- an account is noted, unless a check fails
 abbrev pub Notes : Option Fault → State → ℕ → Result Unit Cause → State → Type 0
-Notes None s account r s' = (r ≡ Ok tt) × Noted s account s'
-Notes (Some fault) s account r s' = (r ≡ Err (cause.Account fault)) × (s' ≡ s)
+Notes None s account r s' = (r ≡ Ok tt) × (s'.figures ≡ s.figures) × (s'.accounts ≡ noted s.accounts account) × (s'.lines ≡ s.lines)
+Notes (Some fault) s account r s' = (r ≡ Err (cause.Account fault)) × Unchanged s s'
 
--- a call is the contract's step; an accepted one adds its lines
+-- a call is the contract's step; an accepted one adds its line
 abbrev pub Calls : State → Call → Result Unit Cause → State → Type 0
-Calls s c (Ok x) s' = (a : Answer) × Step s.book c (Ok a) s'.book × (s'.accounts ≡ s.accounts) × (s'.lines ≡ s.lines ++ lines_of s.book c a s'.book.figures)
+Calls s c (Ok x) s' = (a : Answer) × Step s.figures c (Ok a) s'.figures × (s'.accounts ≡ s.accounts) × (s'.lines ≡ s.lines ++ option_to_list (line_of c s'.figures))
 Calls s c (Err (cause.File refusal)) s' = ⊥
 Calls s c (Err (cause.Account fault)) s' = ⊥
-Calls s c (Err (cause.Call fault)) s' = Step s.book c (Err fault) s'.book × (s'.accounts ≡ s.accounts) × (s'.lines ≡ s.lines)
--- no memory was left for the lines, and the call was not made
-Calls s c (Err cause.Memory) s' = s' ≡ s
+Calls s c (Err (cause.Call fault)) s' = Step s.figures c (Err fault) s'.figures × (s'.accounts ≡ s.accounts) × (s'.lines ≡ s.lines)
+-- the call was accepted and its line found no memory
+Calls s c (Err cause.Memory) s' = (a : Answer) × Step s.figures c (Ok a) s'.figures × (s'.accounts ≡ s.accounts) × (s'.lines ≡ s.lines) × (is_some (line_of c s'.figures) ≡ true)
 
 abbrev pub Acts : State → Item → Result Unit Cause → State → Type 0
-Acts s (item.Account account) r s' = Notes (first_fault (account_checks s.book.figures.phase s.accounts account)) s account r s'
+Acts s (item.Account account) r s' = Notes (first_fault (account_checks s.figures.phase s.accounts account)) s account r s'
 Acts s (item.Call c) r s' = Calls s c r s'
 
 -- a fault has the place of its item
@@ -74,7 +71,7 @@ Serves s p (Err f) s' = (f.place ≡ p.place) × Acts s p.item (Err f.cause) s'
 
 -- from the first word to a place: every item before it was read and accepted
 pub data Runs (bytes : List ℕ) (start : State) : ℕ → State → Type 0 where
-  begin : Runs bytes start 0 start
+  begin : {s : State} → Unchanged start s → Runs bytes start 0 s
   onward : {place : ℕ} {s s' : State} (r : Read)
       → Runs bytes start place s → item_at bytes place ≡ Ok r → Acts s r.item (Ok tt) s'
       → Runs bytes start (place + r.words) s'
@@ -84,14 +81,10 @@ pub record Stops (bytes : List ℕ) (start : State) (f : FileFault) (s' : State)
   pub place : ℕ
   pub s : State
   pub reached : Runs bytes start place s
-  pub why : ((item_at bytes place ≡ Err f) × (s' ≡ s))
+  pub why : ((item_at bytes place ≡ Err f) × Unchanged s s')
       ⊎ ((r : Read) × (item_at bytes place ≡ Ok r) × (f.place ≡ place) × Acts s r.item (Err f.cause) s')
 
 -- a file of a wrong length is not begun; any other is run to its end or to where it stops
 abbrev pub Finished : List ℕ → State → Result Unit FileFault → State → Type 0
 Finished bytes start (Ok x) s' = (of_length (length bytes) ≡ true) × Runs bytes start (length bytes / 4) s'
-Finished bytes start (Err f) s' = ((of_length (length bytes) ≡ false) × (f ≡ wrong_length) × (s' ≡ start)) ⊎ ((of_length (length bytes) ≡ true) × Stops bytes start f s')
-
--- a run begins with no account named
-abbrev pub RunsFile : List ℕ → (List ℕ → State) → Result Unit FileFault → (List ℕ → State) → Type 0
-RunsFile bytes start r end = (named : List ℕ) × Finished bytes (start []) r (end named)
+Finished bytes start (Err f) s' = ((of_length (length bytes) ≡ false) × (f ≡ wrong_length) × Unchanged start s') ⊎ ((of_length (length bytes) ≡ true) × Stops bytes start f s')

@@ -6,7 +6,7 @@ use Rattle.dayfile.specs.declared.faults.Cause.{Cause}
 use Rattle.dayfile.specs.declared.faults.Cause.TheVariants.{File, Account, Call, Memory}
 use Rattle.dayfile.specs.declared.faults.FileFault.{FileFault}
 use Rattle.dayfile.specs.declared.lines.Line.{Line}
-use Rattle.dayfile.specs.declared.lines.Line.TheVariants as line
+use Rattle.dayfile.specs.declared.lines.Line.TheVariants.{Close}
 use Rattle.dayfile.specs.Faults.{fault_of}
 use Rattle.faults.specs.declared.Fault.{Fault}
 use Rattle.faults.specs.Refusals.{number}
@@ -35,16 +35,8 @@ money z = sign z ++ (decimal (unsigned_abs z / 10000) ++ (point_of_four (unsigne
 abbrev pub accumulated : ℤ → List ℕ
 accumulated z = sign z ++ (decimal (unsigned_abs z / 100000000) ++ (point_of_eight (unsigned_abs z % 100000000) ++ decimal (unsigned_abs z % 100000000)))
 
--- after its letter, the figures of a line with single spaces between them
-abbrev pub spaced : List ℕ → List ℕ → List ℕ
-spaced figure rest = figure ++ (codes " " ++ rest)
-
 abbrev pub line_text : Line → List ℕ
-line_text (line.Trade ticket t) = codes "T " ++ spaced (decimal ticket) (spaced (decimal t.buyer) (spaced (decimal t.seller) (spaced (decimal t.units) (money t.price))))
-line_text (line.Bust ticket) = codes "B " ++ decimal ticket
-line_text (line.Close day F A) = codes "C " ++ spaced (decimal day) (spaced (money F) (accumulated A))
-line_text (line.Payment p) = codes "P " ++ spaced (decimal p.account) (money p.amount)
-line_text (line.Settlement V F A) = codes "S " ++ spaced (money (pos V)) (spaced (money F) (accumulated A))
+line_text (Close day F A) = codes "C " ++ (decimal day ++ (codes " " ++ (money F ++ (codes " " ++ accumulated A))))
 
 abbrev pub name_word : CallName → List ℕ
 name_word name.List = codes "list"

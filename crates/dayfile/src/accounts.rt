@@ -1,23 +1,72 @@
-// The accounts that a day file names for its balance table.
-ghost use Rattle.std.specs.Prelude.{◌≡◌, is_ok, if◌then◌else◌};
+// The calls on a list of accounts.
+ghost use Rattle.std.specs.Prelude.{◌≡◌, ◌<◌, [], ◌∷◌, ◌++◌, length, is_ok, if◌then◌else◌, nat_lt};
 ghost use Rattle.faults.specs.Checks.{first_fault, verdict};
-ghost use Rattle.balances.specs.Accounts.{listed};
-ghost use Rattle.balances.specs.Lists.{add_new};
-ghost use Rattle.dayfile.specs.Accounts.{account_checks};
+ghost use Rattle.dayfile.specs.Accounts.{numbers as numbersOf, has as hasIn, noted, account_checks, place_check};
+ghost use Rattle.dayfile.specs.Limits.{most_accounts};
 
-use balances::accounts::Accounts;
+use crate::account_list::AccountList;
+use crate::limits::MOST_ACCOUNTS;
 use contract::Phase;
 use faults::{Fault, Refusal};
 use quantities::AccountNumber;
 
-// Notes an account, which has to come before the listing; a repeated one counts once.
-pub(crate) fn note(accounts: &mut Accounts, phase: Phase, account: u32) -> Result<(), Fault>
-    ensures answer { result ≡ verdict tt (first_fault (account_checks phase (listed accounts.old) account)) }
-    ensures accounts { listed accounts.new ≡ (if is_ok result then add_new (listed accounts.old) account else listed accounts.old) }
+fn has(numbers: &[u32], account: u32) -> bool
+    ensures { result ≡ hasIn numbers.now account }
 {
-    AccountNumber::of(account)?;
-    let Phase::Unlisted = phase else {
-        return Err(Refusal::Phase.into());
-    };
-    accounts.add(account)
+    for number in numbers {
+        if *number == account {
+            return true;
+        }
+    }
+    false
+}
+
+impl AccountList {
+    // A list of no accounts.
+    pub fn new() -> AccountList
+        ensures { numbersOf result ≡ [] }
+    {
+        AccountList {
+            places: [0; MOST_ACCOUNTS],
+            count: 0,
+        }
+    }
+
+    pub fn numbers(&self) -> &[u32]
+        ensures { result.now ≡ numbersOf self.now }
+    {
+        &self.places[0..self.count]
+    }
+
+    // Puts an account at the end of the list, if there is a place.
+    fn put(&mut self, account: u32) -> Result<(), Fault>
+        ensures answer { result ≡ verdict tt (first_fault (place_check (nat_lt (length (numbersOf self.old)) most_accounts) account ∷ [])) }
+        ensures numbers { numbersOf self.new ≡ (if is_ok result then numbersOf self.old ++ (account ∷ []) else numbersOf self.old) }
+    {
+        let count = self.count;
+        if count >= MOST_ACCOUNTS {
+            return Err(Fault {
+                refusal: Refusal::NoAccountPlace,
+                account,
+            });
+        }
+        self.places[count] = account;
+        self.count = count + 1;
+        Ok(())
+    }
+
+    // Notes an account that is named before the listing; a repeated one counts once.
+    pub(crate) fn admit(&mut self, phase: Phase, account: u32) -> Result<(), Fault>
+        ensures answer { result ≡ verdict tt (first_fault (account_checks phase (numbersOf self.old) account)) }
+        ensures numbers { numbersOf self.new ≡ (if is_ok result then noted (numbersOf self.old) account else numbersOf self.old) }
+    {
+        AccountNumber::of(account)?;
+        let Phase::Unlisted = phase else {
+            return Err(Refusal::Phase.into());
+        };
+        if has(self.numbers(), account) {
+            return Ok(());
+        }
+        self.put(account)
+    }
 }

@@ -5,7 +5,7 @@ ghost use Rattle.dayfile.specs.Faults.{fault_of};
 
 use contract::ContractFault;
 use faults::{Fault, Refusal};
-use std::alloc::AllocError;
+use std::alloc::AllocFailed;
 
 #[derive(Clone, Copy)]
 pub enum Cause {
@@ -15,7 +15,7 @@ pub enum Cause {
     Account(Fault),
     // A call of the contract.
     Call(ContractFault),
-    // No memory was left for the lines of a call, which was not made.
+    // No memory was left for a line of the sheet.
     Memory,
 }
 
@@ -56,10 +56,10 @@ impl From<ContractFault> for Cause {
     }
 }
 
-impl From<AllocError> for Cause {
+impl<T: Drop> From<AllocFailed<T>> for Cause {
     ghost from_gives = { λ _ made. made ≡ cause.Memory };
 
-    fn from(_wanting: AllocError) -> Cause {
+    fn from(_line: AllocFailed<T>) -> Cause {
         Cause::Memory
     }
 }

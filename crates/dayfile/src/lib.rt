@@ -1,4 +1,5 @@
 // A day file: 32-bit big-endian words that say calls, the run over a whole file, and the sheet that it prints.
+pub mod account_list;
 mod accounts;
 pub mod faults;
 pub mod limits;
@@ -8,7 +9,9 @@ mod runs;
 mod texts;
 mod words;
 
+pub use account_list::AccountList;
 pub use faults::{Cause, FileFault};
 pub use lines::Line;
 pub use reader::{Item, Placed, Reader};
+pub use runs::run;
 pub use texts::{Accumulated, Money};

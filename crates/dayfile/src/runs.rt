@@ -1,49 +1,65 @@
 // The run over a whole day file.
-ghost use Rattle.std.specs.Prelude.{◌≡◌, ℕ, List};
-ghost use Rattle.balances.specs.Accounts.{listed};
-ghost use Rattle.dayfile.specs.Lines.{held_for};
-ghost use Rattle.dayfile.specs.Runs.{state_of, Acts, Calls};
-ghost use Rattle.table.specs.View.{records as records_of};
+ghost use Rattle.std.specs.Prelude.{◌≡◌};
+ghost use Rattle.dayfile.specs.Accounts.{numbers};
+ghost use Rattle.dayfile.specs.Runs.{state, Acts, Serves, Finished};
 
-use crate::accounts::note;
+use crate::account_list::AccountList;
 use crate::faults::{Cause, FileFault};
-use crate::lines::{Line, line_of, print_payments};
+use crate::lines::{Line, line_of};
 use crate::reader::{Item, Placed, Reader};
-use balances::accounts::Accounts;
-use balances::table::BalanceTable;
-use contract::{Call, Contract};
-use positions::{Account, Trade};
-use table::{Keyed, Table};
+use contract::Contract;
 
-// The records that a call pays: every account's, at a close or at the settlement.
-fn paid_records<'a>(call: Call, accounts: &'a Table<'_, Account>) -> &'a [Keyed<Account>]
-    ensures { result.now ≡ held_for call (records_of accounts.now) }
+// What one item does, and the line that it adds.
+fn act(
+    item: Item,
+    contract: &mut Contract,
+    accounts: &mut AccountList,
+    lines: &mut Vec<Line>,
+) -> Result<(), Cause>
+    ensures { Acts (state contract.old.figures (numbers accounts.old) lines.old.items) item result (state contract.new.figures (numbers accounts.new) lines.new.items) }
 {
-    match call {
-        Call::Close { .. } | Call::Settle { .. } => accounts.records(),
-        _ => &[],
+    match item {
+        Item::Account(account) => accounts.admit(contract.figures().phase, account)?,
+        Item::Call(call) => {
+            contract.step(call)?;
+            if let Some(line) = line_of(call, contract.figures()) {
+                lines.push(line)?;
+            }
+        }
+    }
+    Ok(())
+}
+
+// The same, where a fault has the place of the item.
+fn serve(
+    placed: Placed,
+    contract: &mut Contract,
+    accounts: &mut AccountList,
+    lines: &mut Vec<Line>,
+) -> Result<(), FileFault>
+    ensures { Serves (state contract.old.figures (numbers accounts.old) lines.old.items) placed result (state contract.new.figures (numbers accounts.new) lines.new.items) }
+{
+    match act(placed.item, contract, accounts, lines) {
+        Ok(()) => Ok(()),
+        Err(cause) => Err(FileFault {
+            place: placed.place,
+            cause,
+        }),
     }
 }
 
-// One call on the book, and the lines that it adds. Memory for them is reserved first, so that want of it leaves all as it was.
-fn make_call(
-    call: Call,
+// Every item of a day file in turn, each on what the one before it left, up to the first refusal.
+pub fn run(
+    bytes: &[u8],
     contract: &mut Contract,
-    accounts: &mut Table<'_, Account>,
-    trades: &mut Table<'_, Trade>,
-    ledger: &mut BalanceTable,
+    accounts: &mut AccountList,
     lines: &mut Vec<Line>,
-) -> Result<(), Cause>
-    ensures outcome { (named : List ℕ) → Calls (state_of contract.old accounts.old trades.old ledger.old named lines.old.items) call result (state_of contract.new accounts.new trades.new ledger.new named lines.new.items) }
-    ensures lender { (accounts.new.places.ghost_name ≡ accounts.old.places.ghost_name) × (trades.new.places.ghost_name ≡ trades.old.places.ghost_name) }
+) -> Result<(), FileFault>
+    ensures { Finished bytes.now (state contract.old.figures (numbers accounts.old) lines.old.items) result (state contract.new.figures (numbers accounts.new) lines.new.items) }
 {
-    let held = Vec::from_slice(lines.allocator(), paid_records(call, accounts))?;
-    lines.reserve(held.len() + 1)?;
-    let last = contract.last_price();
-    let answer = contract.step(call, accounts, trades, ledger)?;
-    if let Some(line) = line_of(call, answer, contract.figures()) {
-        lines.push_reserved(line);
+    let mut reader = Reader::new(bytes)?;
+    while let Some(placed) = reader.next_item()? {
+        serve(placed, contract, accounts, lines)?;
     }
-    print_payments(&held, last, contract.last_price(), lines);
     Ok(())
 }

@@ -84,14 +84,6 @@ impl fmt::Display for Line {
 
     fn fmt<W: fmt::Write>(&self, f: &mut fmt::Formatter<W>) -> fmt::Result {
         match *self {
-            Line::Trade { ticket, trade } => {
-                let buyer = trade.buyer;
-                let seller = trade.seller;
-                let units = trade.units;
-                let price = Money(trade.price);
-                write!(f, "T {ticket} {buyer} {seller} {units} {price}")
-            }
-            Line::Bust { ticket } => write!(f, "B {ticket}"),
             Line::Close {
                 day,
                 price,
@@ -100,21 +92,6 @@ impl fmt::Display for Line {
                 let price = Money(price);
                 let accumulated = Accumulated(accumulated);
                 write!(f, "C {day} {price} {accumulated}")
-            }
-            Line::Payment(payment) => {
-                let account = payment.account;
-                let amount = Money(payment.amount);
-                write!(f, "P {account} {amount}")
-            }
-            Line::Settlement {
-                variance,
-                price,
-                accumulated,
-            } => {
-                let variance = Money(i64::from(variance));
-                let price = Money(price);
-                let accumulated = Accumulated(accumulated);
-                write!(f, "S {variance} {price} {accumulated}")
             }
         }
     }

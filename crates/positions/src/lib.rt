@@ -1,13 +1,4 @@
-// The positions of accounts, and the trades of a day.
-mod change;
-mod check;
-mod laws;
-pub mod limits;
-mod places;
-mod records;
-mod side;
-mod trading;
+// The records that a book keeps in ordered tables: the positions of its accounts, and the trades of a day.
+pub mod records;
 
-pub use laws::positions_balance;
 pub use records::{Account, Trade};
-pub use trading::{bust, enter};

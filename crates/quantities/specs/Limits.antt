@@ -29,12 +29,9 @@ is_tick n = between 1 4000 n
 abbrev pub is_index_value : ℕ → Bool
 is_index_value n = between 1 9999999 n
 
-abbrev pub highest_account : ℕ
-highest_account = 16383
-
 -- an account's number
 abbrev pub is_account_number : ℕ → Bool
-is_account_number n = between 1 highest_account n
+is_account_number n = between 1 16383 n
 
 -- a rate, in hundredths of a percent
 abbrev pub is_rate : ℕ → Bool

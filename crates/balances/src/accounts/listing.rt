@@ -1,6 +1,6 @@
-ghost use Rattle.std.specs.Prelude.{◌≡◌, ℕ, [], ◌∷◌, is_ok, if◌then◌else◌};
-ghost use Rattle.faults.specs.Checks.{first_fault, verdict};
-ghost use Rattle.balances.specs.Lists.{add_new, all_admitted, list_fault, place_check};
+ghost use Rattle.std.specs.Prelude.{◌≡◌, ℕ, []};
+ghost use Rattle.faults.specs.Checks.{verdict};
+ghost use Rattle.balances.specs.Lists.{Adds, all_admitted, list_fault};
 ghost use Rattle.balances.specs.Accounts.{Finds, Lists, listed};
 
 use super::Accounts;
@@ -30,7 +30,7 @@ fn are_admitted(list: &[u32]) -> bool
 }
 
 impl Accounts {
-    pub fn none() -> Accounts
+    pub(crate) fn none() -> Accounts
         ensures { listed result ≡ [] }
     {
         Accounts {
@@ -51,10 +51,9 @@ impl Accounts {
         None
     }
 
-    // Adds an account unless it is listed already. Whether its number is admitted is not asked here.
-    pub fn add(&mut self, account: u32) -> Result<(), Fault>
-        ensures answer { result ≡ verdict tt (first_fault (place_check (listed self.old) account ∷ [])) }
-        ensures accounts { listed self.new ≡ (if is_ok result then add_new (listed self.old) account else listed self.old) }
+    // Adds an account unless it is listed already.
+    fn add(&mut self, account: u32) -> Result<(), Fault>
+        ensures { Adds (listed self.old) account result (listed self.new) }
     {
         if self.place(account).is_some() {
             return Ok(());

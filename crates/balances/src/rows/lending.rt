@@ -10,20 +10,7 @@ use crate::accounts::Accounts;
 use crate::place::{PLACES, Place};
 
 impl<R> Rows<R> {
-    // A table of these accounts, each with the same row.
-    pub fn of(accounts: Accounts, row: R) -> Rows<R>
-    where
-        R: Copy,
-        ensures accounts { listed result.accounts ≡ listed accounts }
-        ensures rows { result.rows ≡ replicate places row }
-    {
-        Rows {
-            accounts,
-            rows: [row; PLACES],
-        }
-    }
-
-    // A table of the accounts of a list. A refused list makes a table of no account.
+    // A table of the accounts of a list, each with the same row. A refused list makes a table of no account.
     pub fn new(list: &[u32], row: R) -> Rows<R>
     where
         R: Copy,
@@ -34,7 +21,10 @@ impl<R> Rows<R> {
             Ok(accounts) => accounts,
             Err(_) => Accounts::none(),
         };
-        Rows::of(accounts, row)
+        Rows {
+            accounts,
+            rows: [row; PLACES],
+        }
     }
 
     // Where an account stands.

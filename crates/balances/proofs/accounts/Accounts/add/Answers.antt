@@ -1,20 +1,15 @@
-use Rattle.std.proofs.Common.{◌≡◌, false, length, sym, refl, ◌∙◌, arith, rules}
+use Rattle.std.proofs.Common.{◌≡◌, length, sym, refl, ◌∙◌, arith, rules}
 use Rattle.std.proofs.lemmas.List.{take_more_set}
-use Rattle.balances.specs.Accounts.{listed}
-use Rattle.balances.specs.Lists.{has}
-use Rattle.balances.proofs.Listing.{old_account, new-account, found_test, listed-length, joins, has_room, no_room}
+use Rattle.balances.proofs.Listing.{old_account, new-account, found_test, listed-length}
 use Rattle.balances.proofs.accounts.Accounts.add.Goals as goal
 
 pub returns-then-is-some : goal.returns-then-is-some
-returns-then-is-some c =
-    let known = sym (found_test _ _ _ c.place.ensures) ∙ sym c.if-is-some.ensures in
-    record { answer = rw (joins _ _ known); accounts = sym (old_account _ _ known) }
+returns-then-is-some c = sym (old_account _ _ (sym (found_test _ _ _ c.place.ensures) ∙ sym c.if-is-some.ensures))
 
 pub returns-then-self-eq-PLACES : goal.returns-then-self-eq-PLACES
 returns-then-self-eq-PLACES c =
     let n : length c.args.self.now.numbers ≡ 64 = search rules in
-    let new : has (listed c.args.self.now) c.args.account ≡ false = sym (found_test _ _ _ c.place.ensures) ∙ sym c.if-is-some.ensures in
-    record { answer = rw (no_room _ _ new (listed-length c.args.self.now n ∙ c.if-self-eq-PLACES.true)); accounts = refl }
+    (refl, sym (found_test _ _ _ c.place.ensures) ∙ sym c.if-is-some.ensures, listed-length c.args.self.now n ∙ c.if-self-eq-PLACES.true, refl)
 
 pub returns : goal.returns
 returns c =
@@ -22,9 +17,5 @@ returns c =
     let n : length s.numbers ≡ 64 = search rules in
     let k = s.ok in
     let ne = c.if-self-eq-PLACES.false in
-    let long = listed-length s n in
-    record {
-      answer = rw (has_room (listed s) c.args.account (omega arith));
-      accounts = take_more_set s.numbers s.count c.args.account (omega arith)
-          ∙ sym (new-account _ _ (sym (found_test _ _ _ c.place.ensures) ∙ sym c.if-is-some.ensures));
-    }
+    take_more_set s.numbers s.count c.args.account (omega arith)
+    ∙ sym (new-account _ _ (sym (found_test _ _ _ c.place.ensures) ∙ sym c.if-is-some.ensures))

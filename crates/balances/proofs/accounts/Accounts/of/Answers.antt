@@ -1,10 +1,9 @@
-use Rattle.std.proofs.Common.{◌≡◌, ◌≤◌, cond, length, get_or, is_ok, Result, sym, refl, ap, ◌∙◌}
+use Rattle.std.proofs.Common.{◌≡◌, ◌≤◌, length, get_or, sym, refl, ap, ◌∙◌}
 use Rattle.std.proofs.lemmas.List.{take_all}
 use Rattle.std.proofs.lemmas.Result.{err_from_is_err_and}
-use Rattle.faults.specs.declared.Fault.{Fault}
 use Rattle.balances.specs.Accounts.{listed}
 use Rattle.balances.specs.Lists.{add_new, different}
-use Rattle.balances.proofs.Listing.{list_bad, list_good, list_full, refused_new, sixty_fifth, step, listed_le}
+use Rattle.balances.proofs.Listing.{list_bad, list_good, list_full, sixty_fifth, step, listed_le}
 use Rattle.balances.proofs.accounts.Accounts.of.Goals as goal
 
 pub returns-then-not-are-admitted : goal.returns-then-not-are-admitted
@@ -13,14 +12,13 @@ returns-then-not-are-admitted c = list_bad _ (sym c.if-not-are-admitted.ensures)
 pub returns-in-err-add : goal.returns-in-err-add
 returns-in-err-add c =
     let p = err_from_is_err_and c.from-residual.result c.from-residual.ensures.1 in
-    let e = refused_new _ _ _ _ (listed_le c.loop-account.accounts) c.in-err-add.was c.add.ensures.answer in
+    let e = c.in-err-add.ensures in
     let w = sixty_fifth c.args.list.now _ c.loop-account.account-index _ c.loop-account-test.true refl (sym c.loop-account.invariant) e.1 e.2 in
     rw (p.1, p.2, e.0) (list_full _ _ (sym c.if-not-are-admitted.ensures) w.0 w.1)
 
 pub loop-account-preserved : goal.loop-account-preserved
 loop-account-preserved c =
-    let seen = listed c.loop-account.accounts in
-    let e = c.add.ensures.accounts ∙ ap (λ (r : Result (Unit {0}) Fault). cond (is_ok r) (add_new seen (get_or c.args.list.now c.loop-account.account-index 0)) seen) c.in-ok-add.was in
+    let e = c.in-ok-add.ensures in
     e ∙ ap (λ t. add_new t (get_or c.args.list.now c.loop-account.account-index 0)) c.loop-account.invariant ∙ sym (step c.args.list.now c.loop-account.account-index c.loop-account-test.true)
 
 pub returns : goal.returns

@@ -1,4 +1,4 @@
-use Rattle.std.proofs.Common.{ap, ◌∙◌}
+use Rattle.std.proofs.Common.{sym, refl, ap, ◌∙◌}
 use Rattle.balances.specs.Accounts.{listed}
 use Rattle.balances.proofs.Listing.{on_accepted, on_refused}
 use Rattle.balances.proofs.rows.Rows.new.Goals as goal
@@ -7,8 +7,8 @@ use Rattle.balances.proofs.rows.Rows.new.Goals.{in-Ok, in-Err}
 pub returns : goal.returns
 returns g c = record {
   accounts = λ a. elim c.match-of.branch [
-    | in-Ok w ↦ on_accepted _ _ w.in-Ok.ensures.0 (c.of-2.ensures.accounts ∙ ap listed w.accounts-is ∙ w.in-Ok.ensures.1) a
-    | in-Err w ↦ on_refused _ _ _ w.in-Err.ensures (c.of-2.ensures.accounts ∙ ap listed w.accounts-is ∙ w.none-accounts.ensures) a
+    | in-Ok w ↦ on_accepted _ _ w.in-Ok.ensures.0 (ap listed w.accounts-is ∙ w.in-Ok.ensures.1) a
+    | in-Err w ↦ on_refused _ _ _ w.in-Err.ensures (ap listed w.accounts-is ∙ w.none-accounts.ensures) a
   ];
-  rows = c.of-2.ensures.rows;
+  rows = refl;
 }
