@@ -1,4 +1,6 @@
 // A variance futures contract: its calls, the phase that admits each, and what each does in place.
+#![tactic(auto)]
+
 pub mod calls;
 pub mod contract;
 pub mod faults;

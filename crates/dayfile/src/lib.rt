@@ -1,4 +1,6 @@
 // A day file: 32-bit big-endian words that say calls, the run over a whole file, and the sheet that it prints.
+#![tactic(auto)]
+
 pub mod account_list;
 mod accounts;
 pub mod faults;

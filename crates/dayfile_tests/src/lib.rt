@@ -1,4 +1,6 @@
 // Whole day files and their sheets, at the edges of what is read.
+#![tactic(auto)]
+
 #[cfg(test)]
 mod tests {
     use contract::Contract;

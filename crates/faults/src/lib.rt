@@ -1,4 +1,6 @@
 // Why a call is refused: the refusals of the book with their numbers, and the fault that names one.
+#![tactic(auto)]
+
 ghost use Rattle.std.specs.Prelude.{◌≡◌};
 ghost use Rattle.faults.specs.Refusals.{number as number_of, plain as plain_of};
 

@@ -1,4 +1,6 @@
 // The arithmetic of returns, variances, units and prices.
+#![tactic(auto)]
+
 pub mod cents;
 pub mod figures;
 pub mod price;

@@ -1,4 +1,6 @@
 // The figures that come in: each a type of its own, which holds nothing past its limits.
+#![tactic(auto)]
+
 ghost use Rattle.std.specs.Prelude.{◌≡◌, ◌≤◌, true, false, Ok, Err};
 ghost use Rattle.quantities.specs.Limits.{between, is_expected_values, is_strike, is_discount_factor, is_vega, is_tick, is_index_value, is_account_number, is_rate};
 

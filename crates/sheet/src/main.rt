@@ -1,4 +1,6 @@
 // Reads a day file on standard input and prints its sheet.
+#![tactic(auto)]
+
 use anyhow::anyhow;
 use contract::Contract;
 use dayfile::AccountList;

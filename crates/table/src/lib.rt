@@ -1,4 +1,6 @@
 // An ordered table of records with key numbers, over memory that the caller lends.
+#![tactic(auto)]
+
 mod keyed;
 mod ordered;
 

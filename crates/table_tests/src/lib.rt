@@ -1,4 +1,6 @@
 // What the table's promises are enough for: callers that see its contracts and none of its code, and its tests.
+#![tactic(auto)]
+
 ghost use Rattle.std.specs.Prelude.{◌≡◌, min, [], ◌∷◌, is_ok, if◌then◌else◌};
 ghost use Rattle.table.specs.Records.{put_in};
 ghost use Rattle.table.specs.View.{laid, memory, records, room};
