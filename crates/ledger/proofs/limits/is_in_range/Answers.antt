@@ -16,5 +16,5 @@ returns c =
     let b' : SFits w128 c.args.balance = record { sfits = omega (arith, b.sfits) } in
     let x' : SFits w128 c.args.amount = record { sfits = omega (arith, x.sfits) } in
     let s' : SFits w128 (c.args.balance +ℤ c.args.amount) = search (arith, ints) in
-    let size : c.unsigned-abs-small.result ≡ nat_abs c.args.amount = simp to_z-of_z at c.unsigned-abs-small.ensures.value in
+    let size : c.unsigned_abs-small.result ≡ nat_abs c.args.amount = simp to_z-of_z at c.unsigned_abs-small.ensures.value in
     simp (to_z-of_z, size)

@@ -11,8 +11,8 @@ use Rattle.ledger.proofs.Paid.{within-at, due-here, due-other}
 use Rattle.ledger.proofs.paying.balance_after.Goals as goal
 use Rattle.ledger.proofs.paying.balance_after.Goals.{then-payment-account, else-payment-account}
 
-pub overflow-add-balance : goal.overflow-add-balance
-overflow-add-balance g c =
+pub overflow_add-balance : goal.overflow_add-balance
+overflow_add-balance g c =
     let m : Meaning = meaning g.L.BalanceReader.reading g.L.CashLedger.terms c.args.ledger.now in
     let ps = c.args.payments.now in
     let a = c.args.account in
@@ -25,8 +25,8 @@ overflow-add-balance g c =
 
 pub loop-payment-init : goal.loop-payment-init
 loop-payment-init g c =
-    let f : SFits w64 c.balance-of-balance.result = search rules in
-    to_z-of_z w64 _ f ∙ c.balance-of-balance.ensures ∙ sym (+ℤ_idr _)
+    let f : SFits w64 c.balance_of-balance.result = search rules in
+    to_z-of_z w64 _ f ∙ c.balance_of-balance.ensures ∙ sym (+ℤ_idr _)
 
 pub loop-payment-preserved : goal.loop-payment-preserved
 loop-payment-preserved g c =

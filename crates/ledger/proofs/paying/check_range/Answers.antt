@@ -7,8 +7,8 @@ use Rattle.ledger.specs.Payments.{due, range_check, range_checks}
 use Rattle.ledger.proofs.Paid.{range_more, range_fails, range_shown}
 use Rattle.ledger.proofs.paying.check_range.Goals as goal
 
-pub balance-after-balance-requires : goal.balance-after-balance-requires
-balance-after-balance-requires g c = simp unary_clauses c.loop-i.invariant
+pub balance_after-balance-requires : goal.balance_after-balance-requires
+balance_after-balance-requires g c = simp unary_clauses c.loop-i.invariant
 
 pub returns-then-not-passes : goal.returns-then-not-passes
 returns-then-not-passes g c =
@@ -16,11 +16,11 @@ returns-then-not-passes g c =
     let ps = c.args.payments.now in
     let i = c.loop-i.i in
     let p = get_or ps i (record { account = 0; amount = pos 0 }) in
-    let l : SFits w64 c.lowest-balance-lowest.result = search rules in
-    let h : SFits w64 c.highest-balance-highest.result = search rules in
-    let b : SFits w64 c.balance-after-balance.result = search rules in
+    let l : SFits w64 c.lowest_balance-lowest.result = search rules in
+    let h : SFits w64 c.highest_balance-highest.result = search rules in
+    let b : SFits w64 c.balance_after-balance.result = search rules in
     let x : SFits w64 p.amount = search rules in
-    let test = range_shown m (take i ps) p _ _ _ _ _ l h b x c.lowest-balance-lowest.ensures c.highest-balance-highest.ensures (simp unary_clauses at c.balance-after-balance.ensures) c.is-zero.ensures c.is-in-range.ensures in
+    let test = range_shown m (take i ps) p _ _ _ _ _ l h b x c.lowest_balance-lowest.ensures c.highest_balance-highest.ensures (simp unary_clauses at c.balance_after-balance.ensures) c.is_zero.ensures c.is_in_range.ensures in
     ap (verdict tt) (sym (range_fails m ps i _ c.loop-i-test.true c.loop-i.invariant (sym test ∙ c.if-not-passes.true)))
 
 pub loop-i-preserved : goal.loop-i-preserved
@@ -29,11 +29,11 @@ loop-i-preserved g c =
     let ps = c.args.payments.now in
     let i = c.loop-i.i in
     let p = get_or ps i (record { account = 0; amount = pos 0 }) in
-    let l : SFits w64 c.lowest-balance-lowest.result = search rules in
-    let h : SFits w64 c.highest-balance-highest.result = search rules in
-    let b : SFits w64 c.balance-after-balance.result = search rules in
+    let l : SFits w64 c.lowest_balance-lowest.result = search rules in
+    let h : SFits w64 c.highest_balance-highest.result = search rules in
+    let b : SFits w64 c.balance_after-balance.result = search rules in
     let x : SFits w64 p.amount = search rules in
-    let test = range_shown m (take i ps) p _ _ _ _ _ l h b x c.lowest-balance-lowest.ensures c.highest-balance-highest.ensures (simp unary_clauses at c.balance-after-balance.ensures) c.is-zero.ensures c.is-in-range.ensures in
+    let test = range_shown m (take i ps) p _ _ _ _ _ l h b x c.lowest_balance-lowest.ensures c.highest_balance-highest.ensures (simp unary_clauses at c.balance_after-balance.ensures) c.is_zero.ensures c.is_in_range.ensures in
     range_more m ps i _ c.loop-i-test.true c.loop-i.invariant (sym test ∙ c.if-not-passes.false)
 
 pub returns : goal.returns

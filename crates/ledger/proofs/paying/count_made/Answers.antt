@@ -4,7 +4,7 @@ use Rattle.ledger.specs.declared.payment.Payment.{Payment}
 use Rattle.ledger.specs.Payments.{made}
 use Rattle.ledger.proofs.Paid.{made_none, made_one}
 use Rattle.ledger.proofs.paying.count_made.Goals as goal
-use Rattle.ledger.proofs.paying.count_made.Goals.{then-not-is-zero, else-not-is-zero}
+use Rattle.ledger.proofs.paying.count_made.Goals.{then-not-is_zero, else-not-is_zero}
 
 pub loop-payment-preserved : goal.loop-payment-preserved
 loop-payment-preserved c =
@@ -12,9 +12,9 @@ loop-payment-preserved c =
     let i = c.loop-payment.payment-index in
     let d : Payment = record { account = 0; amount = pos 0 } in
     let more = ap made (take_more ps i d c.loop-payment-test.true) in
-    elim c.if-not-is-zero.branch [
-      | then-not-is-zero w ↦ (let n = made_one (take i ps) (get_or ps i d) (sym c.is-zero.ensures ∙ w.if-not-is-zero.true) in (omega (arith, w.count-is), omega (arith, w.count-is)))
-      | else-not-is-zero w ↦ (let n = made_none (take i ps) (get_or ps i d) (sym c.is-zero.ensures ∙ w.if-not-is-zero.false) in (omega (arith, w.count-is), omega (arith, w.count-is)))
+    elim c.if-not-is_zero.branch [
+      | then-not-is_zero w ↦ (let n = made_one (take i ps) (get_or ps i d) (sym c.is_zero.ensures ∙ w.if-not-is_zero.true) in (omega (arith, w.count-is), omega (arith, w.count-is)))
+      | else-not-is_zero w ↦ (let n = made_none (take i ps) (get_or ps i d) (sym c.is_zero.ensures ∙ w.if-not-is_zero.false) in (omega (arith, w.count-is), omega (arith, w.count-is)))
     ]
 
 pub returns : goal.returns

@@ -6,18 +6,18 @@ use Rattle.ledger.specs.Payments.{Paid}
 use Rattle.ledger.proofs.Checks.{clash}
 use Rattle.ledger.proofs.Paid.{paid_none, next_zero, next_paid, never_refused}
 use Rattle.ledger.proofs.paying.make_all.Goals as goal
-use Rattle.ledger.proofs.paying.make_all.Goals.{then-not-is-zero+in-ok-pay, else-not-is-zero}
+use Rattle.ledger.proofs.paying.make_all.Goals.{then-not-is_zero+in_ok-pay, else-not-is_zero}
 
 pub loop-payment-init : goal.loop-payment-init
 loop-payment-init g c = paid_none _
 
-pub returns-in-err-pay : goal.returns-in-err-pay
-returns-in-err-pay g c =
+pub returns-in_err-pay : goal.returns-in_err-pay
+returns-in_err-pay g c =
     let ps = c.args.payments.now in
     let p = get_or ps c.loop-payment.payment-index (record { account = 0; amount = pos 0 }) in
     let f : SFits w64 p.amount = search rules in
-    let open-still = never_refused (meaning g.L.BalanceReader.reading g.L.CashLedger.terms c.args.ledger.now) ps c.requires c.loop-payment.payment-index _ c.loop-payment-test.true _ c.loop-payment.invariant (sym c.is-zero.ensures ∙ c.if-not-is-zero.true) in
-    clash _ _ open-still (rw (to_z-of_z w64 p.amount f) at c.in-err-pay.ensures.0)
+    let open-still = never_refused (meaning g.L.BalanceReader.reading g.L.CashLedger.terms c.args.ledger.now) ps c.requires c.loop-payment.payment-index _ c.loop-payment-test.true _ c.loop-payment.invariant (sym c.is_zero.ensures ∙ c.if-not-is_zero.true) in
+    clash _ _ open-still (rw (to_z-of_z w64 p.amount f) at c.in_err-pay.ensures.0)
 
 pub loop-payment-preserved : goal.loop-payment-preserved
 loop-payment-preserved g c =
@@ -26,10 +26,10 @@ loop-payment-preserved g c =
     let i = c.loop-payment.payment-index in
     let p = get_or ps i (record { account = 0; amount = pos 0 }) in
     let f : SFits w64 p.amount = search rules in
-    elim c.if-not-is-zero.branch [
-      | then-not-is-zero+in-ok-pay w ↦ (let r = rw (to_z-of_z w64 p.amount f) at w.in-ok-pay.ensures.1 in
-          rw w.ledger-is (next_paid m ps c.requires i _ c.loop-payment-test.true _ c.loop-payment.invariant (sym c.is-zero.ensures ∙ w.if-not-is-zero.true) _ r))
-      | else-not-is-zero w ↦ rw w.ledger-is (next_zero m ps c.requires i _ c.loop-payment-test.true _ c.loop-payment.invariant (sym c.is-zero.ensures ∙ w.if-not-is-zero.false))
+    elim c.if-not-is_zero.branch [
+      | then-not-is_zero+in_ok-pay w ↦ (let r = rw (to_z-of_z w64 p.amount f) at w.in_ok-pay.ensures.1 in
+          rw w.ledger-is (next_paid m ps c.requires i _ c.loop-payment-test.true _ c.loop-payment.invariant (sym c.is_zero.ensures ∙ w.if-not-is_zero.true) _ r))
+      | else-not-is_zero w ↦ rw w.ledger-is (next_zero m ps c.requires i _ c.loop-payment-test.true _ c.loop-payment.invariant (sym c.is_zero.ensures ∙ w.if-not-is_zero.false))
     ]
 
 pub returns : goal.returns

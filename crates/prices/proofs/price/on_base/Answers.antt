@@ -13,14 +13,14 @@ whole : (P A : ℤ) → nat_abs P ≤ 210000000000000000 → nat_abs A ≤ 12000
     → Is (read (read P -ℤ read (read A *ℤ pos 10000)) +ℤ pos 1000000000000000) (P -ℤ A *ℤ pos 10000 +ℤ pos 1000000000000000) 331000000000000000
 whole P A p a = is_plus (is_read (lit< tt) (less P A p a)) (is_num 1000000000000000)
 
-pub overflow-mul-result : goal.overflow-mul-result
-overflow-mul-result c = is_fits (lit< tt) (scaled c.args.accumulated.value c.args.accumulated.ok)
+pub overflow_mul-result : goal.overflow_mul-result
+overflow_mul-result c = is_fits (lit< tt) (scaled c.args.accumulated.value c.args.accumulated.ok)
 
-pub overflow-sub-result : goal.overflow-sub-result
-overflow-sub-result c = is_fits (lit< tt) (less c.args.discounted c.args.accumulated.value c.requires c.args.accumulated.ok)
+pub overflow_sub-result : goal.overflow_sub-result
+overflow_sub-result c = is_fits (lit< tt) (less c.args.discounted c.args.accumulated.value c.requires c.args.accumulated.ok)
 
-pub overflow-add-result : goal.overflow-add-result
-overflow-add-result c = is_fits (lit< tt) (whole c.args.discounted c.args.accumulated.value c.requires c.args.accumulated.ok)
+pub overflow_add-result : goal.overflow_add-result
+overflow_add-result c = is_fits (lit< tt) (whole c.args.discounted c.args.accumulated.value c.requires c.args.accumulated.ok)
 
 pub returns : goal.returns
 returns c =

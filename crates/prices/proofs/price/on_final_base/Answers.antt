@@ -13,14 +13,14 @@ whole : (g A : ℤ) → nat_abs g ≤ 2100000000 → nat_abs A ≤ 1200000000000
     → Is (read (read (read g *ℤ pos 10000) -ℤ read A) +ℤ pos 100000000000) (g *ℤ pos 10000 -ℤ A +ℤ pos 100000000000) 33100000000000
 whole g A h a = is_plus (is_read (lit< tt) (less g A h a)) (is_num 100000000000)
 
-pub overflow-mul-result : goal.overflow-mul-result
-overflow-mul-result c = is_fits (lit< tt) (scaled c.args.above c.requires)
+pub overflow_mul-result : goal.overflow_mul-result
+overflow_mul-result c = is_fits (lit< tt) (scaled c.args.above c.requires)
 
-pub overflow-sub-result : goal.overflow-sub-result
-overflow-sub-result c = is_fits (lit< tt) (less c.args.above c.args.accumulated.value c.requires c.args.accumulated.ok)
+pub overflow_sub-result : goal.overflow_sub-result
+overflow_sub-result c = is_fits (lit< tt) (less c.args.above c.args.accumulated.value c.requires c.args.accumulated.ok)
 
-pub overflow-add-result : goal.overflow-add-result
-overflow-add-result c = is_fits (lit< tt) (whole c.args.above c.args.accumulated.value c.requires c.args.accumulated.ok)
+pub overflow_add-result : goal.overflow_add-result
+overflow_add-result c = is_fits (lit< tt) (whole c.args.above c.args.accumulated.value c.requires c.args.accumulated.ok)
 
 pub returns : goal.returns
 returns c =

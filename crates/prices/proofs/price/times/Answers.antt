@@ -7,11 +7,11 @@ product : (z f : ℤ) (n : ℕ) → mag z < 2 ^ 63 → mag f < 2 ^ 63 → f ≡ 
 product z f n h k e =
     is_times {u = pos n} {n = nat_abs z} {m = n} (record { is = passed z h; size = le_refl (nat_abs z) }) (record { is = passed f k ∙ e; size = le_refl n })
 
-pub overflow-mul-result : goal.overflow-mul-result
-overflow-mul-result c = is_fits (omega (arith, c.requires)) (product c.args.signed c.from.result c.args.factor c.ranges.signed.sfits c.from.type-inv c.from.ensures)
+pub overflow_mul-result : goal.overflow_mul-result
+overflow_mul-result c = is_fits (omega (arith, c.requires)) (product c.args.signed c.from.result c.args.factor c.ranges.signed.sfits c.from.type_inv c.from.ensures)
 
 pub returns : goal.returns
 returns c =
-    let p = product c.args.signed c.from.result c.args.factor c.ranges.signed.sfits c.from.type-inv c.from.ensures in
+    let p = product c.args.signed c.from.result c.args.factor c.ranges.signed.sfits c.from.type_inv c.from.ensures in
     let r = is_read (omega (arith, c.requires)) p in
     record { value = r.is; bound = ap nat_abs r.is ∙ abs-mul c.args.signed (pos c.args.factor) }

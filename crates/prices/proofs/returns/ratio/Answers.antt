@@ -8,5 +8,5 @@ returns c =
     let before = c.args.before in
     let after = c.args.after in
     let s : 0 < before + after = omega arith in
-    let e = c.abs-diff.ensures in
+    let e = c.abs_diff.ensures in
     record { value = cc; bound = rw e (ratio-most (distance before after) (before + after) s c.requires.near) }

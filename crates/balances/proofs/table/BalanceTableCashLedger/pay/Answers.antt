@@ -8,30 +8,30 @@ use Rattle.balances.proofs.Lookup.{lookup-at}
 use Rattle.balances.proofs.Tables.{table_raised}
 use Rattle.balances.proofs.table.BalanceTableCashLedger.pay.Goals as goal
 
-pub returns-in-default : goal.returns-in-default
-returns-in-default c = (unknown-refused _ _ _ c.in-default.ensures, same_self _)
+pub returns-in_default : goal.returns-in_default
+returns-in_default c = (unknown-refused _ _ _ c.in_default.ensures, same_self _)
 
-pub returns-then-not-is-in-range : goal.returns-then-not-is-in-range
-returns-then-not-is-in-range c =
+pub returns-then-not-is_in_range : goal.returns-then-not-is_in_range
+returns-then-not-is_in_range c =
     let row = c.at.result.now in
     let n = c.at.ensures.long in
     let i = c.in-Some.place.inside in
     let at = lookup-at value_in (pos 0) _ c.args.self.now.rows.rows c.args.account c.in-Some.place.index row c.in-Some.ensures (omega arith) ∙ sym (ap value_in c.at.ensures.value) in
     let e = reaches-amount _ _ row.value c.args.amount (fits_within _ row.within) c.ranges.amount in
-    (range_refused _ _ _ (has_first _ _ _ c.in-Some.ensures) (rw at (sym (c.if-not-is-in-range.ensures ∙ e))), same_self _)
+    (range_refused _ _ _ (has_first _ _ _ c.in-Some.ensures) (rw at (sym (c.if-not-is_in_range.ensures ∙ e))), same_self _)
 
-pub overflow-add-row : goal.overflow-add-row
-overflow-add-row c =
+pub overflow_add-row : goal.overflow_add-row
+overflow_add-row c =
     let row = c.at.result.now in
     let f = fits_within _ row.within in
-    let e = c.if-not-is-in-range.ensures ∙ reaches-amount _ _ row.value c.args.amount f c.ranges.amount in
+    let e = c.if-not-is_in_range.ensures ∙ reaches-amount _ _ row.value c.args.amount f c.ranges.amount in
     (sum_back _ _ f c.ranges.amount (reached-within _ _ _ _ (lit≤ tt) (lit≤ tt) (sym e))).0
 
-pub invariant-of-row : goal.invariant-of-row
-invariant-of-row c =
+pub invariant_of-row : goal.invariant_of-row
+invariant_of-row c =
     let row = c.at.result.now in
     let f = fits_within _ row.within in
-    let e = c.if-not-is-in-range.ensures ∙ reaches-amount _ _ row.value c.args.amount f c.ranges.amount in
+    let e = c.if-not-is_in_range.ensures ∙ reaches-amount _ _ row.value c.args.amount f c.ranges.amount in
     let w = reached-within _ _ _ _ (lit≤ tt) (lit≤ tt) (sym e) in
     (rw (sum_back _ _ f c.ranges.amount w).1 w, tt)
 
@@ -44,7 +44,7 @@ returns c =
     let first = c.in-Some.ensures in
     let f = fits_within _ row.within in
     let at = lookup-at value_in (pos 0) _ c.args.self.now.rows.rows c.args.account c.in-Some.place.index row first h ∙ sym (ap value_in c.at.ensures.value) in
-    let e = c.if-not-is-in-range.ensures ∙ reaches-amount _ _ row.value c.args.amount f c.ranges.amount in
+    let e = c.if-not-is_in_range.ensures ∙ reaches-amount _ _ row.value c.args.amount f c.ranges.amount in
     let sum = (sum_back row.value c.args.amount f c.ranges.amount (reached-within _ _ _ _ (lit≤ tt) (lit≤ tt) (sym e))).1 in (
       not_refused _ _ _ (has_first _ _ _ first) (rw at (sym e)) (omega arith),
       table_raised _ c.args.self.now.rows.rows c.args.account c.in-Some.place.index _ c.args.amount first h (sum ∙ ap (λ z. z +ℤ c.args.amount) (sym at)),

@@ -6,12 +6,12 @@ use Rattle.cents.proofs.layer.CentsCashLedger.lowest_balance.Goals as goal
 
 pub returns-then-lowest : goal.returns-then-lowest
 returns-then-lowest g c =
-    let f : SFits w64 c.lowest-balance-lowest.result = search rules in
-    sym (lowest-past _ (past-shown _ _ f c.lowest-balance-lowest.ensures ∙ c.if-lowest.true))
+    let f : SFits w64 c.lowest_balance-lowest.result = search rules in
+    sym (lowest-past _ (past-shown _ _ f c.lowest_balance-lowest.ensures ∙ c.if-lowest.true))
 
 pub returns-else-lowest : goal.returns-else-lowest
 returns-else-lowest g c =
-    let f : SFits w64 c.lowest-balance-lowest.result = search rules in
-    let e = c.lowest-balance-lowest.ensures in
-    let w : Within c.lowest-balance-lowest.result = subst Within (sym e) (g.L.CashLedger.bounded.lowest c.args.self.now.below) in
+    let f : SFits w64 c.lowest_balance-lowest.result = search rules in
+    let e = c.lowest_balance-lowest.ensures in
+    let w : Within c.lowest_balance-lowest.result = subst Within (sym e) (g.L.CashLedger.bounded.lowest c.args.self.now.below) in
     lowest-shown _ w (past-shown _ _ f refl ∙ c.if-lowest.false) ∙ ap lowest_over e

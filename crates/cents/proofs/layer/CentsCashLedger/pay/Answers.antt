@@ -14,11 +14,11 @@ use Rattle.cents.proofs.Layers.{amount_size, below-open, below_raised, layer-rai
 use Rattle.cents.proofs.Splits.{cents-few, sum_fits, sum-shown}
 use Rattle.cents.proofs.layer.CentsCashLedger.pay.Goals as goal
 
-pub returns-in-default : goal.returns-in-default
-returns-in-default g c = record { pays = (unknown-refused _ _ _ (ap is_some c.in-default.ensures), same_self _); sends = (same_self _, refl, refl) }
+pub returns-in_default : goal.returns-in_default
+returns-in_default g c = record { pays = (unknown-refused _ _ _ (ap is_some c.in_default.ensures), same_self _); sends = (same_self _, refl, refl) }
 
-pub returns-then-not-is-in-range : goal.returns-then-not-is-in-range
-returns-then-not-is-in-range g c =
+pub returns-then-not-is_in_range : goal.returns-then-not-is_in_range
+returns-then-not-is_in_range g c =
     let s = c.args.self.now in
     let x = c.args.amount in
     let a = c.args.account in
@@ -27,9 +27,9 @@ returns-then-not-is-in-range g c =
     let rows = s.rests.rows in
     let p = c.in-Some.ensures in
     let b = c.in-Some.found.balance in
-    let l : SFits w64 c.lowest-balance-lowest.result = search rules in
-    let h : SFits w64 c.highest-balance-highest.result = search rules in
-    let shown = range_shown m xs rows a x _ _ b l h c.ranges.amount c.lowest-balance-lowest.ensures c.highest-balance-highest.ensures p.total ∙ sym c.if-not-is-in-range.ensures in
+    let l : SFits w64 c.lowest_balance-lowest.result = search rules in
+    let h : SFits w64 c.highest_balance-highest.result = search rules in
+    let shown = range_shown m xs rows a x _ _ b l h c.ranges.amount c.lowest_balance-lowest.ensures c.highest_balance-highest.ensures p.total ∙ sym c.if-not-is_in_range.ensures in
     record { pays = (range_refused _ _ _ (ap is_some p.total) shown, same_self _); sends = (same_self _, refl, refl) }
 
 pub returns-then-capacity-eq0 : goal.returns-then-capacity-eq0
@@ -42,13 +42,13 @@ returns-then-capacity-eq0 g c =
     let rows = s.rests.rows in
     let p = c.in-Some.ensures in
     let b = c.in-Some.found.balance in
-    let l : SFits w64 c.lowest-balance-lowest.result = search rules in
-    let h : SFits w64 c.highest-balance-highest.result = search rules in
-    let shown = range_shown m xs rows a x _ _ b l h c.ranges.amount c.lowest-balance-lowest.ensures c.highest-balance-highest.ensures p.total ∙ sym c.if-not-is-in-range.ensures in
+    let l : SFits w64 c.lowest_balance-lowest.result = search rules in
+    let h : SFits w64 c.highest_balance-highest.result = search rules in
+    let shown = range_shown m xs rows a x _ _ b l h c.ranges.amount c.lowest_balance-lowest.ensures c.highest_balance-highest.ensures p.total ∙ sym c.if-not-is_in_range.ensures in
     record { pays = (capacity-refused _ _ _ (ap is_some p.total) shown (sym c.capacity.ensures ∙ c.if-capacity-eq0.true), same_self _); sends = (same_self _, refl, refl) }
 
-pub overflow-add-amount : goal.overflow-add-amount
-overflow-add-amount g c =
+pub overflow_add-amount : goal.overflow_add-amount
+overflow_add-amount g c =
     let s = c.args.self.now in
     let x = c.args.amount in
     let a = c.args.account in
@@ -57,16 +57,16 @@ overflow-add-amount g c =
     let rows = s.rests.rows in
     let p = c.in-Some.ensures in
     let b = c.in-Some.found.balance in
-    let l : SFits w64 c.lowest-balance-lowest.result = search rules in
-    let h : SFits w64 c.highest-balance-highest.result = search rules in
-    let in_range = range_at m xs rows a x _ _ b l h c.ranges.amount c.lowest-balance-lowest.ensures c.highest-balance-highest.ensures p.total ∙ sym c.if-not-is-in-range.ensures in
+    let l : SFits w64 c.lowest_balance-lowest.result = search rules in
+    let h : SFits w64 c.highest_balance-highest.result = search rules in
+    let in_range = range_at m xs rows a x _ _ b l h c.ranges.amount c.lowest_balance-lowest.ensures c.highest_balance-highest.ensures p.total ∙ sym c.if-not-is_in_range.ensures in
     let k = total-told m xs rows a b p.total in
     let size = amount_size m xs rows a x b k in_range in
     let o : c.in-Some.found.rest < 100 = subst (λ q. q < 100) (sym p.rest) (rest-small xs rows a) in
     sum_fits x c.in-Some.found.rest size o c.ranges.amount
 
-pub pay-cents-requires : goal.pay-cents-requires
-pay-cents-requires g c =
+pub pay_cents-requires : goal.pay_cents-requires
+pay_cents-requires g c =
     let s = c.args.self.now in
     let x = c.args.amount in
     let a = c.args.account in
@@ -75,9 +75,9 @@ pay-cents-requires g c =
     let rows = s.rests.rows in
     let p = c.in-Some.ensures in
     let b = c.in-Some.found.balance in
-    let l : SFits w64 c.lowest-balance-lowest.result = search rules in
-    let h : SFits w64 c.highest-balance-highest.result = search rules in
-    let in_range = range_at m xs rows a x _ _ b l h c.ranges.amount c.lowest-balance-lowest.ensures c.highest-balance-highest.ensures p.total ∙ sym c.if-not-is-in-range.ensures in
+    let l : SFits w64 c.lowest_balance-lowest.result = search rules in
+    let h : SFits w64 c.highest_balance-highest.result = search rules in
+    let in_range = range_at m xs rows a x _ _ b l h c.ranges.amount c.lowest_balance-lowest.ensures c.highest_balance-highest.ensures p.total ∙ sym c.if-not-is_in_range.ensures in
     let k = total-told m xs rows a b p.total in
     let size = amount_size m xs rows a x b k in_range in
     let o : c.in-Some.found.rest < 100 = subst (λ q. q < 100) (sym p.rest) (rest-small xs rows a) in
@@ -87,8 +87,8 @@ pay-cents-requires g c =
     let sent : back c.split-cents.result.0 ≡ cents (x +ℤ pos (rest_of xs rows a)) = to_z-of_z w64 _ f ∙ whole in
     subst (λ z. nat_abs z ≤ 40000000000000001) (sym sent) (cents-few x (rest_of xs rows a) size (rest-small xs rows a))
 
-pub returns-in-err-pay-cents : goal.returns-in-err-pay-cents
-returns-in-err-pay-cents g c =
+pub returns-in_err-pay_cents : goal.returns-in_err-pay_cents
+returns-in_err-pay_cents g c =
     let s = c.args.self.now in
     let x = c.args.amount in
     let a = c.args.account in
@@ -97,9 +97,9 @@ returns-in-err-pay-cents g c =
     let rows = s.rests.rows in
     let p = c.in-Some.ensures in
     let b = c.in-Some.found.balance in
-    let l : SFits w64 c.lowest-balance-lowest.result = search rules in
-    let h : SFits w64 c.highest-balance-highest.result = search rules in
-    let in_range = range_at m xs rows a x _ _ b l h c.ranges.amount c.lowest-balance-lowest.ensures c.highest-balance-highest.ensures p.total ∙ sym c.if-not-is-in-range.ensures in
+    let l : SFits w64 c.lowest_balance-lowest.result = search rules in
+    let h : SFits w64 c.highest_balance-highest.result = search rules in
+    let in_range = range_at m xs rows a x _ _ b l h c.ranges.amount c.lowest_balance-lowest.ensures c.highest_balance-highest.ensures p.total ∙ sym c.if-not-is_in_range.ensures in
     let k = total-told m xs rows a b p.total in
     let size = amount_size m xs rows a x b k in_range in
     let o : c.in-Some.found.rest < 100 = subst (λ q. q < 100) (sym p.rest) (rest-small xs rows a) in
@@ -109,7 +109,7 @@ returns-in-err-pay-cents g c =
     let sent : back c.split-cents.result.0 ≡ cents (x +ℤ pos (rest_of xs rows a)) = to_z-of_z w64 _ f ∙ whole in
     let room : 0 < m.capacity = omega (arith, c.capacity.ensures, c.if-capacity-eq0.false) in
     let open-below = below-open m xs rows a x b k in_range room in
-    clash _ _ open-below (ap (λ z. fault_of m a (z *ℤ pos 100)) (sym sent) ∙ c.in-err-pay-cents.ensures)
+    clash _ _ open-below (ap (λ z. fault_of m a (z *ℤ pos 100)) (sym sent) ∙ c.in_err-pay_cents.ensures)
 
 pub returns : goal.returns
 returns g c =
@@ -121,10 +121,10 @@ returns g c =
     let rows = s.rests.rows in
     let p = c.in-Some.ensures in
     let b = c.in-Some.found.balance in
-    let l : SFits w64 c.lowest-balance-lowest.result = search rules in
-    let h : SFits w64 c.highest-balance-highest.result = search rules in
-    let shown = range_shown m xs rows a x _ _ b l h c.ranges.amount c.lowest-balance-lowest.ensures c.highest-balance-highest.ensures p.total ∙ sym c.if-not-is-in-range.ensures in
-    let in_range = range_at m xs rows a x _ _ b l h c.ranges.amount c.lowest-balance-lowest.ensures c.highest-balance-highest.ensures p.total ∙ sym c.if-not-is-in-range.ensures in
+    let l : SFits w64 c.lowest_balance-lowest.result = search rules in
+    let h : SFits w64 c.highest_balance-highest.result = search rules in
+    let shown = range_shown m xs rows a x _ _ b l h c.ranges.amount c.lowest_balance-lowest.ensures c.highest_balance-highest.ensures p.total ∙ sym c.if-not-is_in_range.ensures in
+    let in_range = range_at m xs rows a x _ _ b l h c.ranges.amount c.lowest_balance-lowest.ensures c.highest_balance-highest.ensures p.total ∙ sym c.if-not-is_in_range.ensures in
     let k = total-told m xs rows a b p.total in
     let size = amount_size m xs rows a x b k in_range in
     let o : c.in-Some.found.rest < 100 = subst (λ q. q < 100) (sym p.rest) (rest-small xs rows a) in
@@ -132,12 +132,12 @@ returns g c =
     let whole = c.split-cents.ensures.cents ∙ ap cents sum in
     let f : SFits w64 c.split-cents.result.0 = search rules in
     let sent : back c.split-cents.result.0 ≡ cents (x +ℤ pos (rest_of xs rows a)) = to_z-of_z w64 _ f ∙ whole in
-    let n : Meaning = meaning g.L.BalanceReader.reading g.L.CashLedger.terms c.pay-cents.new.ledger in
+    let n : Meaning = meaning g.L.BalanceReader.reading g.L.CashLedger.terms c.pay_cents.new.ledger in
     let room : 0 < m.capacity = omega (arith, c.capacity.ensures, c.if-capacity-eq0.false) in
     let long = p.long in
     let inside = c.in-Some.found.place.inside in
     let short : c.in-Some.found.place.index < length rows = omega arith in
-    let below : Below (is_zero (cents (x +ℤ pos (rest_of xs rows a)))) m a (cents (x +ℤ pos (rest_of xs rows a))) n = subst (λ z. Below (is_zero z) m a z n) sent c.in-ok-pay-cents.ensures in
+    let below : Below (is_zero (cents (x +ℤ pos (rest_of xs rows a)))) m a (cents (x +ℤ pos (rest_of xs rows a))) n = subst (λ z. Below (is_zero z) m a z n) sent c.in_ok-pay_cents.ensures in
     let bounded = g.L.CashLedger.bounded in
     let new = new-within m xs rows a x b k in_range (bounded.lowest s.below) (bounded.highest s.below) in
     let left = c.split-cents.ensures.rest ∙ ap rest sum in

@@ -7,5 +7,5 @@ pub returns : goal.returns
 unfolding written
 returns c =
     let f : SFits w64 c.args.payment.amount = search rules in
-    let bits = c.cast-unsigned-bits.ensures ∙ ap (of_z w64) (to_z-of_z w64 c.args.payment.amount f) in
+    let bits = c.cast_unsigned-bits.ensures ∙ ap (of_z w64) (to_z-of_z w64 c.args.payment.amount f) in
     record { words = rw bits; lines = refl; ends = (refl, refl); lent = refl }

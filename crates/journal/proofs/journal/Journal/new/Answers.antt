@@ -2,9 +2,9 @@ use Rattle.std.proofs.Common.{refl, ◌∙◌, arith}
 use Rattle.journal.proofs.Journals.{both_shown, new-balance, new-known, new-lines, spans_all, spans-none}
 use Rattle.journal.proofs.journal.Journal.new.Goals as goal
 
-pub returns-then-is-admitted : goal.returns-then-is-admitted
-returns-then-is-admitted c =
-    let test = both_shown c.args.first c.args.last _ _ _ c.is-admitted.ensures c.is-admitted-2.ensures c.if-is-admitted.true in
+pub returns-then-is_admitted : goal.returns-then-is_admitted
+returns-then-is_admitted c =
+    let test = both_shown c.args.first c.args.last _ _ _ c.is_admitted.ensures c.is_admitted-2.ensures c.if-is_admitted.true in
     record {
       words = refl;
       lines = new-lines _;
@@ -16,7 +16,7 @@ returns-then-is-admitted c =
 
 pub returns : goal.returns
 returns c =
-    let test = both_shown c.args.first c.args.last _ _ _ c.is-admitted.ensures c.is-admitted-2.ensures c.if-is-admitted.false in
+    let test = both_shown c.args.first c.args.last _ _ _ c.is_admitted.ensures c.is_admitted-2.ensures c.if-is_admitted.false in
     record {
       words = refl;
       lines = new-lines _;

@@ -8,5 +8,5 @@ pub returns : goal.returns
 unfolding line_at
 returns c =
     let line : ℤ → Payment = λ x. record { account = get_or c.args.self.now.words.now (4 * c.args.number) 0 % part; amount = x } in
-    let f : SFits w64 c.cast-signed.result = search rules in
-    ap line (to_z-of_z w64 _ f ∙ c.cast-signed.ensures)
+    let f : SFits w64 c.cast_signed.result = search rules in
+    ap line (to_z-of_z w64 _ f ∙ c.cast_signed.ensures)

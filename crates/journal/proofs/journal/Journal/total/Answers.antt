@@ -14,7 +14,7 @@ use Rattle.journal.proofs.journal.Journal.total.Goals as goal
 use Rattle.journal.proofs.journal.Journal.total.Goals.{then-sum-via-then-sum, then-sum-via-else-sum+then-sum-2}
 
 pub returns-then-not-spans : goal.returns-then-not-spans
-returns-then-not-spans c = sym (total-out _ _ _ _ _ (spans-shown _ _ _ _ _ c.is-admitted.ensures c.if-not-spans.true))
+returns-then-not-spans c = sym (total-out _ _ _ _ _ (spans-shown _ _ _ _ _ c.is_admitted.ensures c.if-not-spans.true))
 
 pub loop-i-init : goal.loop-i-init
 loop-i-init c = (sym (ap (λ q. due q c.args.account) (lines_none _)), omega arith)
@@ -35,7 +35,7 @@ returns-then-sum c =
     let s = c.args.self.now in
     let ws = s.words.now in
     let e : c.loop-i.i ≡ min s.lines (length ws / 4) = omega arith in
-    let t = total-in ws s.lines s.first s.last c.args.account (spans-shown _ _ _ _ _ c.is-admitted.ensures c.if-not-spans.false) in
+    let t = total-in ws s.lines s.first s.last c.args.account (spans-shown _ _ _ _ _ c.is_admitted.ensures c.if-not-spans.false) in
     let sum = sym c.loop-i.sum_is ∙ c.loop-i.invariant.0 ∙ ap (λ k. due (lines_in ws k) c.args.account) e in
     let out : farthest_balance < nat_abs c.loop-i.sum = elim c.then-sum.branch [
       | then-sum-via-then-sum w ↦ below-limit c.loop-i.sum (ap (λ z. lt_z z (negsuc 8999999999999999999)) (sym c.loop-i.sum_is) ∙ w.if-sum.true)
@@ -48,7 +48,7 @@ returns c =
     let s = c.args.self.now in
     let ws = s.words.now in
     let e : c.loop-i.i ≡ min s.lines (length ws / 4) = omega arith in
-    let t = total-in ws s.lines s.first s.last c.args.account (spans-shown _ _ _ _ _ c.is-admitted.ensures c.if-not-spans.false) in
+    let t = total-in ws s.lines s.first s.last c.args.account (spans-shown _ _ _ _ _ c.is_admitted.ensures c.if-not-spans.false) in
     let sum = sym c.loop-i.sum_is ∙ c.loop-i.invariant.0 ∙ ap (λ k. due (lines_in ws k) c.args.account) e in
     let w = inside-limits c.loop-i.sum (ap (λ z. lt_z z (negsuc 8999999999999999999)) (sym c.loop-i.sum_is) ∙ c.if-sum.false) (ap (lt_z (pos 9000000000000000000)) (sym c.loop-i.sum_is) ∙ c.if-sum-2.false) in
     ap (λ z. Some z) (ap back c.loop-i.sum_is ∙ back_within _ w) ∙ sym (t ∙ ap if_within (sym sum) ∙ if_inside _ w)

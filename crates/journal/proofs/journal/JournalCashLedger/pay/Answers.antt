@@ -6,20 +6,20 @@ use Rattle.ledger.proofs.Refused.{same_self, unknown-refused, range_refused, cap
 use Rattle.journal.proofs.Journals.{journal-paid, no_notes, spans-small, total-told, unraised}
 use Rattle.journal.proofs.journal.JournalCashLedger.pay.Goals as goal
 
-pub returns-in-default : goal.returns-in-default
-returns-in-default c = record { pays = (unknown-refused _ _ _ (ap is_some (sym c.in-default.ensures)), same_self _); notes = no_notes _ _; lent = refl }
+pub returns-in_default : goal.returns-in_default
+returns-in_default c = record { pays = (unknown-refused _ _ _ (ap is_some (sym c.in_default.ensures)), same_self _); notes = no_notes _ _; lent = refl }
 
-pub returns-then-not-is-in-range : goal.returns-then-not-is-in-range
-returns-then-not-is-in-range c =
+pub returns-then-not-is_in_range : goal.returns-then-not-is_in_range
+returns-then-not-is_in_range c =
     let e = sym c.in-Some.ensures in
-    let x = c.if-not-is-in-range.ensures ∙ reaches-amount _ _ _ _ (fits_within _ (total-told _ _ _ _ _ _ e).2) c.ranges.amount in
+    let x = c.if-not-is_in_range.ensures ∙ reaches-amount _ _ _ _ (fits_within _ (total-told _ _ _ _ _ _ e).2) c.ranges.amount in
     let at = ap (λ o. reaches (negsuc 8999999999999999999) (pos 9000000000000000000) (unwrap_or o (pos 0)) c.args.amount) e in
     record { pays = (range_refused _ _ _ (ap is_some e) (at ∙ sym x), same_self _); notes = no_notes _ _; lent = refl }
 
 pub returns-then-capacity-eq0 : goal.returns-then-capacity-eq0
 returns-then-capacity-eq0 c =
     let e = sym c.in-Some.ensures in
-    let x = c.if-not-is-in-range.ensures ∙ reaches-amount _ _ _ _ (fits_within _ (total-told _ _ _ _ _ _ e).2) c.ranges.amount in
+    let x = c.if-not-is_in_range.ensures ∙ reaches-amount _ _ _ _ (fits_within _ (total-told _ _ _ _ _ _ e).2) c.ranges.amount in
     let at = ap (λ o. reaches (negsuc 8999999999999999999) (pos 9000000000000000000) (unwrap_or o (pos 0)) c.args.amount) e in
     record { pays = (capacity-refused _ _ _ (ap is_some e) (at ∙ sym x) (sym c.capacity.ensures ∙ c.if-capacity-eq0.true), same_self _); notes = no_notes _ _; lent = refl }
 
@@ -28,13 +28,13 @@ append-requires c =
     let e = sym c.in-Some.ensures in
     record { account = spans-small _ _ _ (total-told _ _ _ _ _ _ e).0; room = omega (arith, c.capacity.ensures, c.if-capacity-eq0.false) }
 
-pub returns-then-not-is-zero : goal.returns-then-not-is-zero
-returns-then-not-is-zero c =
+pub returns-then-not-is_zero : goal.returns-then-not-is_zero
+returns-then-not-is_zero c =
     let s = c.args.self.now in
     let e = sym c.in-Some.ensures in
-    let x = c.if-not-is-in-range.ensures ∙ reaches-amount _ _ _ _ (fits_within _ (total-told _ _ _ _ _ _ e).2) c.ranges.amount in
+    let x = c.if-not-is_in_range.ensures ∙ reaches-amount _ _ _ _ (fits_within _ (total-told _ _ _ _ _ _ e).2) c.ranges.amount in
     let at = ap (λ o. reaches (negsuc 8999999999999999999) (pos 9000000000000000000) (unwrap_or o (pos 0)) c.args.amount) e in
-    let zero = c.if-not-is-zero.ensures ∙ ap is_zero (to_z-of_z w64 c.args.amount c.ranges.amount) in
+    let zero = c.if-not-is_zero.ensures ∙ ap is_zero (to_z-of_z w64 c.args.amount c.ranges.amount) in
     let room : s.lines < length s.words.now / 4 = omega (arith, c.capacity.ensures, c.if-capacity-eq0.false) in
     let a = c.append.ensures in
     let new = reached-within _ _ _ _ (lit≤ tt) (lit≤ tt) (sym x) in
@@ -45,12 +45,12 @@ returns-then-not-is-zero c =
       lent = a.lent;
     }
 
-pub returns-else-not-is-zero : goal.returns-else-not-is-zero
-returns-else-not-is-zero c =
+pub returns-else-not-is_zero : goal.returns-else-not-is_zero
+returns-else-not-is_zero c =
     let e = sym c.in-Some.ensures in
-    let x = c.if-not-is-in-range.ensures ∙ reaches-amount _ _ _ _ (fits_within _ (total-told _ _ _ _ _ _ e).2) c.ranges.amount in
+    let x = c.if-not-is_in_range.ensures ∙ reaches-amount _ _ _ _ (fits_within _ (total-told _ _ _ _ _ _ e).2) c.ranges.amount in
     let at = ap (λ o. reaches (negsuc 8999999999999999999) (pos 9000000000000000000) (unwrap_or o (pos 0)) c.args.amount) e in
-    let zero = c.if-not-is-zero.ensures ∙ ap is_zero (to_z-of_z w64 c.args.amount c.ranges.amount) in
+    let zero = c.if-not-is_zero.ensures ∙ ap is_zero (to_z-of_z w64 c.args.amount c.ranges.amount) in
     record {
       pays = (not_refused _ _ _ (ap is_some e) (at ∙ sym x) (omega (arith, c.capacity.ensures, c.if-capacity-eq0.false)), unraised _ _ _ (sym zero));
       notes = rw (sym zero) (no_notes _ _);

@@ -5,35 +5,35 @@ use Rattle.ledger.proofs.Refused.{same_self, unknown-refused, range_refused, cap
 use Rattle.ledger_tests.proofs.Purses.{purse_raised}
 use Rattle.ledger_tests.proofs.purse.PurseCashLedger.pay.Goals as goal
 
-pub returns-then-not-is-known : goal.returns-then-not-is-known
-returns-then-not-is-known c = (unknown-refused _ _ _ (sym c.if-not-is-known.ensures), same_self _)
+pub returns-then-not-is_known : goal.returns-then-not-is_known
+returns-then-not-is_known c = (unknown-refused _ _ _ (sym c.if-not-is_known.ensures), same_self _)
 
-pub returns-then-not-is-in-range : goal.returns-then-not-is-in-range
-returns-then-not-is-in-range c =
+pub returns-then-not-is_in_range : goal.returns-then-not-is_in_range
+returns-then-not-is_in_range c =
     let s = c.args.self.now in
-    let is = sym c.if-not-is-known.ensures in
-    let e = c.if-not-is-in-range.ensures ∙ reaches-back _ _ _ _ (fits_within s.lowest.value s.lowest.within) (fits_within s.highest.value s.highest.within) (fits_within s.balance.value s.balance.within) c.ranges.amount in
+    let is = sym c.if-not-is_known.ensures in
+    let e = c.if-not-is_in_range.ensures ∙ reaches-back _ _ _ _ (fits_within s.lowest.value s.lowest.within) (fits_within s.highest.value s.highest.within) (fits_within s.balance.value s.balance.within) c.ranges.amount in
     (range_refused _ _ _ is (rw is (sym e)), same_self _)
 
 pub returns-then-self-eq0 : goal.returns-then-self-eq0
 returns-then-self-eq0 c =
     let s = c.args.self.now in
-    let is = sym c.if-not-is-known.ensures in
-    let e = c.if-not-is-in-range.ensures ∙ reaches-back _ _ _ _ (fits_within s.lowest.value s.lowest.within) (fits_within s.highest.value s.highest.within) (fits_within s.balance.value s.balance.within) c.ranges.amount in
+    let is = sym c.if-not-is_known.ensures in
+    let e = c.if-not-is_in_range.ensures ∙ reaches-back _ _ _ _ (fits_within s.lowest.value s.lowest.within) (fits_within s.highest.value s.highest.within) (fits_within s.balance.value s.balance.within) c.ranges.amount in
     (capacity-refused _ _ _ is (rw is (sym e)) c.if-self-eq0.true, same_self _)
 
-pub overflow-add-self : goal.overflow-add-self
-overflow-add-self c =
+pub overflow_add-self : goal.overflow_add-self
+overflow_add-self c =
     let s = c.args.self.now in
     let f = fits_within s.balance.value s.balance.within in
-    let e = c.if-not-is-in-range.ensures ∙ reaches-back _ _ _ _ (fits_within s.lowest.value s.lowest.within) (fits_within s.highest.value s.highest.within) f c.ranges.amount in
+    let e = c.if-not-is_in_range.ensures ∙ reaches-back _ _ _ _ (fits_within s.lowest.value s.lowest.within) (fits_within s.highest.value s.highest.within) f c.ranges.amount in
     (sum_back s.balance.value c.args.amount f c.ranges.amount (reached-within s.lowest.value s.highest.value s.balance.value c.args.amount s.lowest.within s.highest.within (sym e))).0
 
-pub invariant-of-self : goal.invariant-of-self
-invariant-of-self c =
+pub invariant_of-self : goal.invariant_of-self
+invariant_of-self c =
     let s = c.args.self.now in
     let f = fits_within s.balance.value s.balance.within in
-    let e = c.if-not-is-in-range.ensures ∙ reaches-back _ _ _ _ (fits_within s.lowest.value s.lowest.within) (fits_within s.highest.value s.highest.within) f c.ranges.amount in
+    let e = c.if-not-is_in_range.ensures ∙ reaches-back _ _ _ _ (fits_within s.lowest.value s.lowest.within) (fits_within s.highest.value s.highest.within) f c.ranges.amount in
     let w = reached-within s.lowest.value s.highest.value s.balance.value c.args.amount s.lowest.within s.highest.within (sym e) in
     (rw (sum_back s.balance.value c.args.amount f c.ranges.amount w).1 w, tt)
 
@@ -41,8 +41,8 @@ pub returns : goal.returns
 returns c =
     let s = c.args.self.now in
     let f = fits_within s.balance.value s.balance.within in
-    let is = sym c.if-not-is-known.ensures in
-    let e = c.if-not-is-in-range.ensures ∙ reaches-back _ _ _ _ (fits_within s.lowest.value s.lowest.within) (fits_within s.highest.value s.highest.within) f c.ranges.amount in
+    let is = sym c.if-not-is_known.ensures in
+    let e = c.if-not-is_in_range.ensures ∙ reaches-back _ _ _ _ (fits_within s.lowest.value s.lowest.within) (fits_within s.highest.value s.highest.within) f c.ranges.amount in
     let sum = (sum_back s.balance.value c.args.amount f c.ranges.amount (reached-within s.lowest.value s.highest.value s.balance.value c.args.amount s.lowest.within s.highest.within (sym e))).1 in
     let none = c.if-self-eq0.false in
     let some : 0 < s.left = omega arith in

@@ -4,21 +4,21 @@ use Rattle.prices.proofs.price.Price.accrual.Goals as goal
 
 pub times-requires : goal.times-requires
 times-requires c =
-    let most = passed_most c.bearing.result 46100000000000 c.bearing.type-inv c.bearing.ensures.bound in
+    let most = passed_most c.bearing.result 46100000000000 c.bearing.ok c.bearing.ensures.bound in
     omega (arith, mul-le-mul most c.args.rate.ok.1)
 
-pub nearest-signed-requires : goal.nearest-signed-requires
-nearest-signed-requires c =
-    let t = passed c.times.result c.times.type-inv in
-    let most = passed_most c.bearing.result 46100000000000 c.bearing.type-inv c.bearing.ensures.bound in
+pub nearest_signed-requires : goal.nearest_signed-requires
+nearest_signed-requires c =
+    let t = passed c.times.result c.times.type_inv in
+    let most = passed_most c.bearing.result 46100000000000 c.bearing.type_inv c.bearing.ensures.bound in
     record { divisor = lit< tt; room = omega (arith, ap nat_abs t, mul-le-mul most c.args.rate.ok.1) }
 
 -- a rate of at most 2,000 over 3,600,000 is at most 1 in 1,800
 pub returns : goal.returns
 returns c =
-    let r = passed c.nearest-signed.result c.nearest-signed.type-inv in
-    let t = passed c.times.result c.times.type-inv in
-    let b = passed c.bearing.result c.bearing.type-inv in
+    let r = passed c.nearest_signed.result c.nearest_signed.type_inv in
+    let t = passed c.times.result c.times.type_inv in
+    let b = passed c.bearing.result c.bearing.type_inv in
     record {
       value = cc;
       bound = omega (

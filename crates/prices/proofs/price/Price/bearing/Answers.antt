@@ -12,14 +12,14 @@ whole : (F A : ℤ) → nat_abs F ≤ 3400000000 → nat_abs A ≤ 1200000000000
     → Is (read (read (read F -ℤ pos 10000000) *ℤ pos 10000) +ℤ read A) ((F -ℤ pos 10000000) *ℤ pos 10000 +ℤ A) 46100000000000
 whole F A f a = is_plus (is_read (lit< tt) (scaled F f)) (is_given A 12000000000000 (lit< tt) a)
 
-pub overflow-sub-result : goal.overflow-sub-result
-overflow-sub-result c = is_fits (lit< tt) (over c.args.self.value c.args.self.ok)
+pub overflow_sub-result : goal.overflow_sub-result
+overflow_sub-result c = is_fits (lit< tt) (over c.args.self.value c.args.self.ok)
 
-pub overflow-mul-result : goal.overflow-mul-result
-overflow-mul-result c = is_fits (lit< tt) (scaled c.args.self.value c.args.self.ok)
+pub overflow_mul-result : goal.overflow_mul-result
+overflow_mul-result c = is_fits (lit< tt) (scaled c.args.self.value c.args.self.ok)
 
-pub overflow-add-result : goal.overflow-add-result
-overflow-add-result c = is_fits (lit< tt) (whole c.args.self.value c.args.accumulated.value c.args.self.ok c.args.accumulated.ok)
+pub overflow_add-result : goal.overflow_add-result
+overflow_add-result c = is_fits (lit< tt) (whole c.args.self.value c.args.accumulated.value c.args.self.ok c.args.accumulated.ok)
 
 pub returns : goal.returns
 returns c =

@@ -7,36 +7,36 @@ use Rattle.prices.proofs.price.Price.converted.Goals as goal
 
 pub times-discounted-requires : goal.times-discounted-requires
 times-discounted-requires c =
-    let most = passed_most c.above.result 2100000000 c.above.type-inv c.above.ensures.bound in
+    let most = passed_most c.above.result 2100000000 c.above.ok c.above.ensures.bound in
     omega (arith, mul-le-mul most c.args.factor.ok.1)
 
-pub on-base-whole-requires : goal.on-base-whole-requires
-on-base-whole-requires c =
-    let t = passed c.times-discounted.result c.times-discounted.type-inv in
-    let most = passed_most c.above.result 2100000000 c.above.type-inv c.above.ensures.bound in
+pub on_base-whole-requires : goal.on_base-whole-requires
+on_base-whole-requires c =
+    let t = passed c.times-discounted.result c.times-discounted.type_inv in
+    let most = passed_most c.above.result 2100000000 c.above.type_inv c.above.ensures.bound in
     omega (arith, ap nat_abs t, mul-le-mul most c.args.factor.ok.1)
 
-pub nearest-signed-requires : goal.nearest-signed-requires
-nearest-signed-requires c =
-    let most = passed_most c.on-base-whole.result 331000000000000000 c.on-base-whole.type-inv c.on-base-whole.ensures.bound in
+pub nearest_signed-requires : goal.nearest_signed-requires
+nearest_signed-requires c =
+    let most = passed_most c.on_base-whole.result 331000000000000000 c.on_base-whole.type_inv c.on_base-whole.ensures.bound in
     record { divisor = lit< tt; room = omega (arith, most) }
 
-pub invariant-of-result : goal.invariant-of-result
-invariant-of-result c =
-    let most = passed_most c.on-base-whole.result 331000000000000000 c.on-base-whole.type-inv c.on-base-whole.ensures.bound in
-    (passed_most c.nearest-signed.result 3400000000 c.nearest-signed.type-inv (omega (arith, most, c.nearest-signed.ensures.bound)), tt)
+pub invariant_of-result : goal.invariant_of-result
+invariant_of-result c =
+    let most = passed_most c.on_base-whole.result 331000000000000000 c.on_base-whole.type_inv c.on_base-whole.ensures.bound in
+    (passed_most c.nearest_signed.result 3400000000 c.nearest_signed.type_inv (omega (arith, most, c.nearest_signed.ensures.bound)), tt)
 
 pub returns : goal.returns
 returns c =
-    let r = passed c.nearest-signed.result c.nearest-signed.type-inv in
-    let w = passed c.on-base-whole.result c.on-base-whole.type-inv in
-    let t = passed c.times-discounted.result c.times-discounted.type-inv in
-    let a = passed c.above.result c.above.type-inv in
+    let r = passed c.nearest_signed.result c.nearest_signed.type_inv in
+    let w = passed c.on_base-whole.result c.on_base-whole.type_inv in
+    let t = passed c.times-discounted.result c.times-discounted.type_inv in
+    let a = passed c.above.result c.above.type_inv in
     let turned = *ℤ_comm (pos c.args.factor.value) (pos c.args.variance.value -ℤ pos c.args.strike.value) in
-    let most = passed_most c.above.result 2100000000 c.above.type-inv c.above.ensures.bound in
-    let is : to_z w64 (of_z w64 c.nearest-signed.result) ≡ nearestℤ (c.times-discounted.result -ℤ c.args.accumulated.value *ℤ pos 10000 +ℤ pos 1000000000000000) 100000000 = cc in
+    let most = passed_most c.above.result 2100000000 c.above.type_inv c.above.ensures.bound in
+    let is : to_z w64 (of_z w64 c.nearest_signed.result) ≡ nearestℤ (c.times-discounted.result -ℤ c.args.accumulated.value *ℤ pos 10000 +ℤ pos 1000000000000000) 100000000 = cc in
     record {
       value = cc;
-      bearing = converted-bearing c.times-discounted.result c.args.accumulated.value (to_z w64 (of_z w64 c.nearest-signed.result)) is
+      bearing = converted-bearing c.times-discounted.result c.args.accumulated.value (to_z w64 (of_z w64 c.nearest_signed.result)) is
           (omega (arith, mul-le-mul most c.args.factor.ok.1));
     }

@@ -3,9 +3,9 @@ use Rattle.prices.proofs.Quotients.{nearest-most}
 use Rattle.prices.proofs.variance.Returns.variance_at.Goals as goal
 
 -- a rounded mean of figures of at most 2,091,600,000
-pub invariant-of-result : goal.invariant-of-result
-invariant-of-result c =
-    let d : 0 < 10000 * c.expected-returns.result = omega arith in
-    let m : c.to-come.result * 10000 + 252 * c.args.self.sum ≤ 2091600000 * (10000 * c.expected-returns.result) = omega arith in
-    let q = nearest-most (c.to-come.result * 10000 + 252 * c.args.self.sum) (10000 * c.expected-returns.result) 2091600000 d m in
+pub invariant_of-result : goal.invariant_of-result
+invariant_of-result c =
+    let d : 0 < 10000 * c.expected_returns.result = omega arith in
+    let m : c.to_come.result * 10000 + 252 * c.args.self.sum ≤ 2091600000 * (10000 * c.expected_returns.result) = omega arith in
+    let q = nearest-most (c.to_come.result * 10000 + 252 * c.args.self.sum) (10000 * c.expected_returns.result) 2091600000 d m in
     omega arith

@@ -29,8 +29,8 @@ done t place r cur slot lacks free end so =
       fits = omega arith;
     }
 
-pub invariant-of-self : goal.invariant-of-self
-invariant-of-self g c =
+pub invariant_of-self : goal.invariant_of-self
+invariant_of-self g c =
     let t = c.args.self.now in
     let n = length-records t in
     let upto : c.args.place ≤ t.count = omega (arith, c.requires.place.within) in
@@ -43,8 +43,8 @@ loop-slot-init g c =
     let none : 0 ≡ c.args.place - c.args.place = omega arith in
     (refl, refl, paste_none (memory t) c.args.place moved ∙ ap (paste (memory t) c.args.place moved) none, ap (λ m. get_or moved m c.args.incoming) none, refl)
 
-pub invariant-of-self-in-loop-slot : goal.invariant-of-self-in-loop-slot
-invariant-of-self-in-loop-slot g c =
+pub invariant_of-self-in-loop-slot : goal.invariant_of-self-in-loop-slot
+invariant_of-self-in-loop-slot g c =
     let s = c.loop-slot.self in
     let slot = c.loop-slot.slot in
     let same = length-set (memory s) slot c.loop-slot.carried in
@@ -74,8 +74,8 @@ loop-slot-preserved g c =
       inv.4,
     )
 
-pub invariant-of-self-2 : goal.invariant-of-self-2
-invariant-of-self-2 g c =
+pub invariant_of-self-2 : goal.invariant_of-self-2
+invariant_of-self-2 g c =
     let t = c.args.self.now in
     let r = c.args.incoming in
     let n = length-records t in

@@ -22,8 +22,8 @@ written t place r s =
       fits = t.within;
     }
 
-pub invariant-of-self : goal.invariant-of-self
-invariant-of-self g c =
+pub invariant_of-self : goal.invariant_of-self
+invariant_of-self g c =
     let t = c.args.self.now in
     let r = c.args.incoming in
     now_sound (written t c.in-Ok.place r c.in-Ok.ensures) (rising-put r (records t) t.order)

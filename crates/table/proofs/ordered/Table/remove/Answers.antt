@@ -33,8 +33,8 @@ done t place key cur slot stands end so =
       fits = omega (arith, t.within);
     }
 
-pub invariant-of-self : goal.invariant-of-self
-invariant-of-self g c =
+pub invariant_of-self : goal.invariant_of-self
+invariant_of-self g c =
     let t = c.args.self.now in
     let n = length-records t in
     let upto : c.args.place ≤ t.count = omega (arith, c.requires.within) in
@@ -48,8 +48,8 @@ loop-slot-init g c =
     let none : 0 ≡ at - at = omega arith in
     (refl, refl, paste_none (memory t) at moved ∙ ap (paste (memory t) at moved) none, refl)
 
-pub invariant-of-self-in-loop-slot : goal.invariant-of-self-in-loop-slot
-invariant-of-self-in-loop-slot g c =
+pub invariant_of-self-in-loop-slot : goal.invariant_of-self-in-loop-slot
+invariant_of-self-in-loop-slot g c =
     let s = c.loop-slot.self in
     let slot = c.loop-slot.slot in
     let x = get_or (memory s) (slot + 1) c.index-self-slot.result in
@@ -81,8 +81,8 @@ loop-slot-preserved g c =
       inv.3,
     )
 
-pub invariant-of-self-2 : goal.invariant-of-self-2
-invariant-of-self-2 g c =
+pub invariant_of-self-2 : goal.invariant_of-self-2
+invariant_of-self-2 g c =
     let t = c.args.self.now in
     let n = length-records t in
     let w = done t c.args.place c.args.key (memory c.loop-slot.self) c.loop-slot.slot c.requires (omega (arith, c.requires.within)) c.loop-slot.invariant.2 in

@@ -22,8 +22,8 @@ written {V} t i v d below =
       fits = t.within;
     }
 
-pub invariant-of-self : goal.invariant-of-self
-invariant-of-self g c =
+pub invariant_of-self : goal.invariant_of-self
+invariant_of-self g c =
     let t = c.args.self.now in
     let w = written t c.args.place c.args.value c.index-self-place.result c.if-place-self.true in
     now_sound w (rising-set c.args.value c.args.place (records t) ∙ t.order)
