@@ -4,7 +4,7 @@ use Rattle.prices.proofs.price.Price.accrual.Goals as goal
 
 pub times-requires : goal.times-requires
 times-requires c =
-    let most = passed_most c.bearing.result 46100000000000 c.bearing.ok c.bearing.ensures.bound in
+    let most = passed_most c.bearing.result 46100000000000 c.bearing.type_inv c.bearing.ensures.bound in
     omega (arith, mul-le-mul most c.args.rate.ok.1)
 
 pub nearest_signed-requires : goal.nearest_signed-requires

@@ -7,7 +7,7 @@ use Rattle.prices.proofs.price.Price.converted.Goals as goal
 
 pub times-discounted-requires : goal.times-discounted-requires
 times-discounted-requires c =
-    let most = passed_most c.above.result 2100000000 c.above.ok c.above.ensures.bound in
+    let most = passed_most c.above.result 2100000000 c.above.type_inv c.above.ensures.bound in
     omega (arith, mul-le-mul most c.args.factor.ok.1)
 
 pub on_base-whole-requires : goal.on_base-whole-requires
@@ -24,7 +24,7 @@ nearest_signed-requires c =
 pub invariant_of-result : goal.invariant_of-result
 invariant_of-result c =
     let most = passed_most c.on_base-whole.result 331000000000000000 c.on_base-whole.type_inv c.on_base-whole.ensures.bound in
-    (passed_most c.nearest_signed.result 3400000000 c.nearest_signed.type_inv (omega (arith, most, c.nearest_signed.ensures.bound)), tt)
+    record { ok = passed_most c.nearest_signed.result 3400000000 c.nearest_signed.type_inv (omega (arith, most, c.nearest_signed.ensures.bound)) }
 
 pub returns : goal.returns
 returns c =

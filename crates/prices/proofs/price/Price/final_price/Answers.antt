@@ -13,7 +13,7 @@ nearest_signed-requires c =
 pub invariant_of-result : goal.invariant_of-result
 invariant_of-result c =
     let most = passed_most c.on_final_base-whole.result 33100000000000 c.on_final_base-whole.type_inv c.on_final_base-whole.ensures.bound in
-    (passed_most c.nearest_signed.result 3400000000 c.nearest_signed.type_inv (omega (arith, most, c.nearest_signed.ensures.bound)), tt)
+    record { ok = passed_most c.nearest_signed.result 3400000000 c.nearest_signed.type_inv (omega (arith, most, c.nearest_signed.ensures.bound)) }
 
 pub returns : goal.returns
 returns c =
