@@ -46,8 +46,8 @@ module _ {V : Type 0} {before after ys : List (Keyed V)} {m : ℕ} (w : Lays bef
       ap length w.so ∙ omega arith
 
   -- the table's count and order, where the records rise
-  pub now_sound : rising ys ≡ true → (m ≤ length after) × ((rising (take m after) ≡ true) × Unit {0})
-  now_sound up = (subst (λ n. m ≤ n) (sym now_room) w.fits, (subst (λ xs. rising xs ≡ true) (sym now_records) up, tt))
+  pub now_sound : rising ys ≡ true → record { within : m ≤ length after; order : rising (take m after) ≡ true }
+  now_sound up = record { within = subst (λ n. m ≤ n) (sym now_room) w.fits; order = subst (λ xs. rising xs ≡ true) (sym now_records) up }
 
 -- of records laid twice, the second count, where they are no fewer
 pub laid-laid : {V : Type 0} (xs ys ps : List (Keyed V)) → length xs ≤ length ys → laid ys (laid xs ps) ≡ laid ys ps

@@ -33,7 +33,7 @@ invariant_of-row c =
     let f = fits_within _ row.within in
     let e = c.if-not-is_in_range.ensures ∙ reaches-amount _ _ row.value c.args.amount f c.ranges.amount in
     let w = reached-within _ _ _ _ (lit≤ tt) (lit≤ tt) (sym e) in
-    (rw (sum_back _ _ f c.ranges.amount w).1 w, tt)
+    record { within = rw (sum_back _ _ f c.ranges.amount w).1 w }
 
 pub returns : goal.returns
 returns c =

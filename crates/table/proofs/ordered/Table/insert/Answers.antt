@@ -34,7 +34,7 @@ invariant_of-self g c =
     let t = c.args.self.now in
     let n = length-records t in
     let upto : c.args.place ≤ t.count = omega (arith, c.requires.place.within) in
-    (omega (arith, t.within, upto), (rising-fewer c.args.place t.count (memory t) upto t.order, tt))
+    record { within = omega (arith, t.within, upto); order = rising-fewer c.args.place t.count (memory t) upto t.order }
 
 pub loop-slot-init : goal.loop-slot-init
 loop-slot-init g c =
@@ -50,7 +50,7 @@ invariant_of-self-in-loop-slot g c =
     let same = length-set (memory s) slot c.loop-slot.carried in
     let from : c.args.place ≤ slot = c.loop-slot.auto.slot in
     let low : s.count ≤ slot = omega (arith, c.loop-slot.invariant.0, from) in
-    (subst (λ m. s.count ≤ m) (sym same) s.within, (subst (λ xs. rising xs ≡ true) (sym (take-set-le s.count (memory s) slot c.loop-slot.carried low)) s.order, tt))
+    record { within = subst (λ m. s.count ≤ m) (sym same) s.within; order = subst (λ xs. rising xs ≡ true) (sym (take-set-le s.count (memory s) slot c.loop-slot.carried low)) s.order }
 
 pub loop-slot-preserved : goal.loop-slot-preserved
 loop-slot-preserved g c =
