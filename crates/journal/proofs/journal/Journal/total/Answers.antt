@@ -25,8 +25,8 @@ loop-i-preserved c =
     let i = c.loop-i.i in
     let n : length ws < 18446744073709551616 = search rules in
     let f : SFits w64 c.pays.result = search rules in
-    let r = sum-128 _ c.loop-i.sum c.pays.result i c.loop-i.sum_is f (subst (λ z. nat_abs z ≤ i * 9223372036854775808) c.loop-i.sum_is c.loop-i.invariant.1) (omega arith) in (
-      r.0 ∙ ap (λ z. z +ℤ c.pays.result) (sym c.loop-i.sum_is ∙ c.loop-i.invariant.0) ∙ ap (λ z. due (lines_in ws i) c.args.account +ℤ z) c.pays.ensures ∙ sym (sum_more ws i c.args.account),
+    let r = sum-128 _ c.loop-i.sum c.pays.result i c.loop-i.sum-is f (subst (λ z. nat_abs z ≤ i * 9223372036854775808) c.loop-i.sum-is c.loop-i.invariant.1) (omega arith) in (
+      r.0 ∙ ap (λ z. z +ℤ c.pays.result) (sym c.loop-i.sum-is ∙ c.loop-i.invariant.0) ∙ ap (λ z. due (lines_in ws i) c.args.account +ℤ z) c.pays.ensures ∙ sym (sum_more ws i c.args.account),
       subst (λ z. nat_abs z ≤ (i + 1) * 9223372036854775808) (sym r.0) r.1,
     )
 
@@ -36,10 +36,10 @@ returns-then-sum c =
     let ws = s.words.now in
     let e : c.loop-i.i ≡ min s.lines (length ws / 4) = omega arith in
     let t = total-in ws s.lines s.first s.last c.args.account (spans-shown _ _ _ _ _ c.is_admitted.ensures c.if-not-spans.false) in
-    let sum = sym c.loop-i.sum_is ∙ c.loop-i.invariant.0 ∙ ap (λ k. due (lines_in ws k) c.args.account) e in
+    let sum = sym c.loop-i.sum-is ∙ c.loop-i.invariant.0 ∙ ap (λ k. due (lines_in ws k) c.args.account) e in
     let out : farthest_balance < nat_abs c.loop-i.sum = elim c.then-sum.branch [
-      | then-sum-via-then-sum w ↦ below-limit c.loop-i.sum (ap (λ z. lt_z z (negsuc 8999999999999999999)) (sym c.loop-i.sum_is) ∙ w.if-sum.true)
-      | then-sum-via-else-sum+then-sum-2 w ↦ above-limit c.loop-i.sum (ap (lt_z (pos 9000000000000000000)) (sym c.loop-i.sum_is) ∙ w.if-sum-2.true)
+      | then-sum-via-then-sum w ↦ below-limit c.loop-i.sum (ap (λ z. lt_z z (negsuc 8999999999999999999)) (sym c.loop-i.sum-is) ∙ w.if-sum.true)
+      | then-sum-via-else-sum+then-sum-2 w ↦ above-limit c.loop-i.sum (ap (lt_z (pos 9000000000000000000)) (sym c.loop-i.sum-is) ∙ w.if-sum-2.true)
     ] in
     sym (t ∙ ap if_within (sym sum) ∙ if_outside _ out)
 
@@ -49,6 +49,6 @@ returns c =
     let ws = s.words.now in
     let e : c.loop-i.i ≡ min s.lines (length ws / 4) = omega arith in
     let t = total-in ws s.lines s.first s.last c.args.account (spans-shown _ _ _ _ _ c.is_admitted.ensures c.if-not-spans.false) in
-    let sum = sym c.loop-i.sum_is ∙ c.loop-i.invariant.0 ∙ ap (λ k. due (lines_in ws k) c.args.account) e in
-    let w = inside-limits c.loop-i.sum (ap (λ z. lt_z z (negsuc 8999999999999999999)) (sym c.loop-i.sum_is) ∙ c.if-sum.false) (ap (lt_z (pos 9000000000000000000)) (sym c.loop-i.sum_is) ∙ c.if-sum-2.false) in
-    ap (λ z. Some z) (ap back c.loop-i.sum_is ∙ back_within _ w) ∙ sym (t ∙ ap if_within (sym sum) ∙ if_inside _ w)
+    let sum = sym c.loop-i.sum-is ∙ c.loop-i.invariant.0 ∙ ap (λ k. due (lines_in ws k) c.args.account) e in
+    let w = inside-limits c.loop-i.sum (ap (λ z. lt_z z (negsuc 8999999999999999999)) (sym c.loop-i.sum-is) ∙ c.if-sum.false) (ap (lt_z (pos 9000000000000000000)) (sym c.loop-i.sum-is) ∙ c.if-sum-2.false) in
+    ap (λ z. Some z) (ap back c.loop-i.sum-is ∙ back_within _ w) ∙ sym (t ∙ ap if_within (sym sum) ∙ if_inside _ w)
