@@ -5,11 +5,12 @@
 mod tests {
     use contract::Contract;
     use dayfile::{AccountList, Accumulated, Money, run};
+    use std::alloc::AllocGlobal;
     use std::fmt::Write;
     use std::process::Abort;
     use std::test::*;
 
-    fn sheet(rt: &HostRuntime, bytes: &[u8]) -> Result<String, Fail> {
+    fn sheet(rt: &impl AllocGlobal, bytes: &[u8]) -> Result<String, Fail> {
         let mut contract = Contract::new();
         let mut accounts = AccountList::new();
         let mut lines = Vec::new(rt.alloc());
@@ -24,21 +25,25 @@ mod tests {
         Ok(text)
     }
 
-    fn expect(rt: &HostRuntime, words: &[u32], expected: &str) -> Result<(), Fail> {
+    fn expect(rt: &(impl Abort + AllocGlobal), words: &[u32], expected: &str) -> Result<(), Fail> {
         let mut bytes = Vec::new(rt.alloc());
         for word in words {
             bytes.extend_from_slice(&word.to_be_bytes())?;
         }
         let text = sheet(rt, &bytes)?;
-        assert_eq!(text.as_str(), expected);
+        assert_eq!(rt; text.as_str(), expected);
         Ok(())
     }
 
     // A file of zeros, which are words of kind 0.
-    fn expect_bytes(rt: &HostRuntime, length: usize, expected: &str) -> Result<(), Fail> {
+    fn expect_bytes(
+        rt: &(impl Abort + AllocGlobal),
+        length: usize,
+        expected: &str,
+    ) -> Result<(), Fail> {
         let bytes = vec![in rt.alloc(); 0u8; length]?;
         let text = sheet(rt, &bytes)?;
-        assert_eq!(text.as_str(), expected);
+        assert_eq!(rt; text.as_str(), expected);
         Ok(())
     }
 
@@ -139,7 +144,7 @@ mod tests {
 
     // Accounts from 1 on, then one more.
     fn expect_after(
-        rt: &HostRuntime,
+        rt: &(impl Abort + AllocGlobal),
         count: u32,
         account: u32,
         expected: &str,
@@ -150,7 +155,7 @@ mod tests {
         }
         bytes.extend_from_slice(&(0xB000_0000u32.wrapping_add(account)).to_be_bytes())?;
         let text = sheet(rt, &bytes)?;
-        assert_eq!(text.as_str(), expected);
+        assert_eq!(rt; text.as_str(), expected);
         Ok(())
     }
 

@@ -35,7 +35,7 @@ invariant_of-self c =
     let f = fits_within s.balance.value s.balance.within in
     let e = c.if-not-is_in_range.ensures ∙ reaches-back _ _ _ _ (fits_within s.lowest.value s.lowest.within) (fits_within s.highest.value s.highest.within) f c.ranges.amount in
     let w = reached-within s.lowest.value s.highest.value s.balance.value c.args.amount s.lowest.within s.highest.within (sym e) in
-    (rw (sum_back s.balance.value c.args.amount f c.ranges.amount w).1 w, tt)
+    record { within = rw (sum_back s.balance.value c.args.amount f c.ranges.amount w).1 w }
 
 pub returns : goal.returns
 returns c =
