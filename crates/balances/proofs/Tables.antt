@@ -1,10 +1,10 @@
 -- A payment to a balance table.
-use Rattle.std.proofs.Common.{◌≡◌, ℕ, ◌<◌, List, length, set, ℤ, pos, ◌+ℤ◌, sym, refl, ap, ◌∙◌, inl}
+use Rattle.std.proofs.Common.{◌≡◌, ℕ, ◌<◌, List, length, set, ℤ, pos, ◌+ℤ◌, refl, ◌∙◌, inl}
 use Rattle.ledger.specs.Meaning.{Meaning, meaning}
 use Rattle.ledger.specs.Payments.{Raised}
 use Rattle.ledger.specs.Totals.{widest}
 use Rattle.balances.specs.declared.balance.Balance.{Balance}
-use Rattle.balances.specs.Lists.{First, has}
+use Rattle.balances.specs.Lists.{First}
 use Rattle.balances.specs.Lookup.{lookup}
 use Rattle.balances.specs.Table.{value_in, table_reading}
 use Rattle.balances.proofs.Lookup.{lookup-other, lookup-set}

@@ -1,5 +1,5 @@
 -- What a balance table shows as a reader: unknown accounts have a balance of 0, and balances are within the limits.
-use Rattle.std.specs.Prelude.{◌≡◌, ℕ, false, List, [], ◌∷◌, ℤ, pos, ◌==◌, refl}
+use Rattle.std.specs.Prelude.{◌≡◌, ℕ, false, List, [], ◌∷◌, pos, ◌==◌, refl}
 use Rattle.std.proofs.Common.{inl, inr, lit≤}
 use Rattle.std.proofs.lemmas.Bool.{or_parts, cases_Bool}
 use Rattle.ledger.specs.Limits.{Within}

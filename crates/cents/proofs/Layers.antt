@@ -1,12 +1,12 @@
 -- The cents layer over any ledger's meaning.
-use Rattle.std.proofs.Common.{◌≡◌, ℕ, ◌+◌, ◌<◌, ◌≤◌, Bool, true, false, cond, not, ◌&&◌, T, ◌⊎◌, List, length, set, replicate, ℤ, pos, ◌+ℤ◌, ◌*ℤ◌, nat_abs, ◌≤ℤ◌, is_some, Some, None, Option, unwrap_or, sym, refl, ap, ◌∙◌, subst, inl, inr, arith, w64, SFits, to_z, of_z}
+use Rattle.std.proofs.Common.{◌≡◌, ℕ, ◌<◌, ◌≤◌, Bool, true, false, cond, not, ◌&&◌, T, ◌⊎◌, List, length, set, replicate, ℤ, pos, ◌+ℤ◌, ◌*ℤ◌, nat_abs, ◌≤ℤ◌, is_some, Some, None, Option, unwrap_or, sym, refl, ap, ◌∙◌, subst, inl, inr, arith, w64, SFits, to_z}
 use lib.IntN.{+ℤ_idr}
 use lib.Signed.{lt_z, lt_z_no}
 use Rattle.std.proofs.lemmas.Int.{to_z-of_z, to_z_pos, ints}
-use Rattle.std.proofs.lemmas.Bool.{cases_Bool, cases_eq, and_left, and_right, and_from, and_parts}
+use Rattle.std.proofs.lemmas.Bool.{cases_Bool, cases_eq, and_right, and_parts}
 use Rattle.prices.specs.Cents.{cents, rest}
 use Rattle.ledger.specs.Limits.{Within, farthest_balance, is_zero, reaches}
-use Rattle.ledger.specs.Meaning.{Meaning, Same}
+use Rattle.ledger.specs.Meaning.{Meaning}
 use Rattle.ledger.specs.Payments.{Raised, fault_of}
 use Rattle.ledger.specs.Totals.{if_within}
 use Rattle.ledger.proofs.Money.{Reached, back, back_within, fits_within, reach, reached, reaches-back}

@@ -1,5 +1,5 @@
 -- What a cents layer shows as a ledger: unknown accounts have a balance of 0, and all figures are within the limits.
-use Rattle.std.specs.Prelude.{◌≡◌, ℕ, ◌≤◌, false, not, T, List, ℤ, pos, ◌+ℤ◌, ◌≤ℤ◌, int_lt}
+use Rattle.std.specs.Prelude.{◌≡◌, ℕ, false, not, T, List, ℤ, pos, ◌+ℤ◌, ◌≤ℤ◌, int_lt}
 use Rattle.std.proofs.Common.{sym, subst, inl, inr, arith, lit≤}
 use Rattle.std.specs.Int.Signed.{lt_z_no}
 use Rattle.std.proofs.lemmas.Int.{ints}

@@ -1,5 +1,5 @@
 -- A search through a list of accounts, from an index on.
-use Rattle.std.proofs.Common.{◌≡◌, ℕ, ◌+◌, ◌<◌, ◌≤◌, true, false, eqb, List, length, get_or, drop, add-one, arith, drop-cons, eq-eqb, ne_eqb}
+use Rattle.std.proofs.Common.{◌≡◌, ℕ, ◌+◌, ◌<◌, ◌≤◌, true, false, List, length, get_or, drop, add-one, arith, drop-cons, eq-eqb, ne_eqb}
 use lib.Seq.{drop-length}
 use Rattle.dayfile.specs.Accounts.{has}
 

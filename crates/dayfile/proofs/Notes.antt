@@ -1,5 +1,5 @@
 -- An account that is refused leaves the run as it was.
-use Rattle.std.proofs.Common.{◌≡◌, ℕ, cond, List, is_ok, Some, None, Ok, Err, Option, Result, sym, refl, ◌∙◌, subst, arith}
+use Rattle.std.proofs.Common.{◌≡◌, ℕ, cond, List, is_ok, Some, None, Err, Option, Result, sym, refl, ◌∙◌, subst, arith}
 use Rattle.contract.specs.declared.figures.Figures.{Figures}
 use Rattle.dayfile.specs.Accounts.{account_checks, noted}
 use Rattle.dayfile.specs.declared.faults.Cause.TheVariants as cause

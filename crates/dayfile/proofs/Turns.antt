@@ -4,8 +4,8 @@ use Rattle.dayfile.specs.declared.faults.FileFault.{FileFault}
 use Rattle.dayfile.specs.declared.reader.Item.{Item}
 use Rattle.dayfile.specs.declared.reader.Placed.{Placed}
 use Rattle.dayfile.specs.declared.reader.Read.{Read}
-use Rattle.dayfile.specs.Runs.{State, Unchanged, Runs, begin, onward, Acts, Serves, Finished, Stops}
-use Rattle.dayfile.specs.Words.{word, kind, body, single, starts, double, of_single, of_double, item_at, of_length, placed, next_at, moved, place_after}
+use Rattle.dayfile.specs.Runs.{State, Unchanged, Runs, begin, onward, Acts, Serves, Stops}
+use Rattle.dayfile.specs.Words.{word, kind, starts, of_single, of_double, item_at, placed, next_at, moved, place_after}
 
 -- ---- an item takes a word or more, and none past the last
 

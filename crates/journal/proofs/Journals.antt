@@ -1,5 +1,5 @@
 -- A journal's balances, and what a payment does to them.
-use Rattle.std.proofs.Common.{◌≡◌, ℕ, ◌+◌, ◌-◌, ◌*◌, ◌/◌, ◌<◌, ◌≤◌, min, Bool, true, false, cond, ◌&&◌, eqb, leb, ◌⊎◌, List, [], ◌∷◌, ◌++◌, length, drop, ℤ, pos, negsuc, ◌+ℤ◌, nat_abs, is_some, Some, None, Option, unwrap_or, sym, refl, ap, ◌∙◌, subst, inl, inr, arith, w64, SFits, to_z, of_z}
+use Rattle.std.proofs.Common.{◌≡◌, ℕ, ◌+◌, ◌*◌, ◌/◌, ◌<◌, ◌≤◌, min, Bool, true, false, cond, ◌&&◌, leb, List, [], ◌∷◌, ◌++◌, length, ℤ, pos, negsuc, ◌+ℤ◌, nat_abs, is_some, Some, None, unwrap_or, sym, refl, ap, ◌∙◌, inl, inr, arith, w64, SFits, to_z, of_z}
 use lib.Signed.{lt_z}
 use Rattle.std.proofs.lemmas.List.{append-nil}
 use mir.Syntax.{w128}
@@ -14,7 +14,7 @@ use Rattle.ledger.specs.Totals.{if_within}
 use Rattle.ledger.proofs.Paid.{due-here, due-one, due-other, zero_is}
 use Rattle.ledger.proofs.Totals.{if_inside, if_told, none_some}
 use Rattle.journal.specs.Lines.{line_at, lines_in, lines_of, part, written}
-use Rattle.journal.specs.Meaning.{Notes, from_to, journal, journal_total, spans, written_all}
+use Rattle.journal.specs.Meaning.{Notes, from_to, journal, journal_total, spans}
 use Rattle.journal.proofs.Lines.{length-written, lines_more, lines_none, lines-written, past-written}
 
 -- ---- totals

@@ -1,5 +1,5 @@
 -- Lines in words: what is written reads back, and nothing else changes.
-use Rattle.std.proofs.Common.{◌≡◌, ℕ, zero, suc, ◌+◌, ◌*◌, ◌/◌, ◌%◌, ◌<◌, ◌≤◌, min, ◌≢◌, ◌⊎◌, List, [], ◌∷◌, ◌++◌, length, get_or, drop, set, ℤ, pos, negsuc, Some, None, sym, refl, ap, ◌∙◌, inl, inr, div-add-mod', add-one, arith, length-append, w64, SFits, to_z, of_z}
+use Rattle.std.proofs.Common.{◌≡◌, ℕ, zero, suc, ◌+◌, ◌*◌, ◌/◌, ◌%◌, ◌<◌, ◌≤◌, ◌≢◌, ◌⊎◌, List, [], ◌∷◌, ◌++◌, length, get_or, drop, set, ℤ, pos, negsuc, Some, None, sym, refl, ap, ◌∙◌, inl, inr, div-add-mod', add-one, arith, length-append, w64, SFits, to_z}
 use Rattle.std.proofs.lemmas.Nat.{mod-mul-add, div_below, mod_below}
 use Rattle.std.proofs.lemmas.List.{get_or-set_same, get_or-set_other, length-set, drop-set-lt}
 use Rattle.std.proofs.lemmas.Option.{slice_get_past}

@@ -1,17 +1,16 @@
 -- One payment after another.
-use Rattle.std.proofs.Common.{◌≡◌, ℕ, ◌+◌, ◌<◌, ◌≤◌, Bool, true, false, cond, ◌||◌, eqb, leb, ◌⊎◌, List, [], ◌∷◌, ◌++◌, map, length, get_or, take, drop, ℤ, pos, ◌+ℤ◌, nat_abs, Some, None, Option, sym, refl, ap, ◌∙◌, subst, inl, inr, append_assoc, arith, w64, SFits, eqb-true, le-leb, leb-true}
+use Rattle.std.proofs.Common.{◌≡◌, ℕ, ◌+◌, ◌<◌, ◌≤◌, Bool, true, false, cond, ◌||◌, eqb, List, [], ◌∷◌, ◌++◌, map, length, get_or, take, drop, ℤ, pos, ◌+ℤ◌, nat_abs, Some, None, sym, refl, ap, ◌∙◌, subst, append_assoc, arith, w64, SFits, eqb-true, le-leb, leb-true}
 use lib.IntN.{+ℤ_idl, +ℤ_idr}
-use borrow.Author.Tests.{eqb-false, lt-leb}
-use Rattle.std.proofs.lemmas.List.{take_more, take-append-drop, take_all}
+use borrow.Author.Tests.{lt-leb}
+use Rattle.std.proofs.lemmas.List.{take_more, take-append-drop}
 use Rattle.std.proofs.lemmas.Int.{ints}
-use Rattle.std.proofs.lemmas.Bool.{cases_Bool, or_left}
 use Rattle.std.proofs.lemmas.Bool.Decides.{nat_tests}
 use Rattle.faults.specs.declared.Fault.{Fault}
 use Rattle.faults.specs.declared.Refusal.TheVariants.{NoCapacity}
 use Rattle.ledger.specs.declared.payment.Payment.{Payment}
-use Rattle.faults.specs.Checks.{Check, first_fault}
+use Rattle.faults.specs.Checks.{first_fault}
 use Rattle.ledger.specs.Limits.{Within, is_zero, reaches}
-use Rattle.ledger.specs.Meaning.{Meaning, Same}
+use Rattle.ledger.specs.Meaning.{Meaning}
 use Rattle.ledger.specs.Payments.{Raised, Paid, due, made, known_check, range_check, range_checks, capacity_check, fault_of, fault_of_all}
 use Rattle.ledger.proofs.Checks.{cut, map-++, or_else, first-++, none_both, passed, passes_then, fails_then}
 use Rattle.ledger.proofs.Money.{back, reached-within, reaches-back}

@@ -1,5 +1,5 @@
 -- When one payment is refused, and by what.
-use Rattle.std.proofs.Common.{◌≡◌, ℕ, ◌+◌, ◌<◌, ◌≤◌, Bool, true, false, cond, eqb, leb, ℤ, pos, ◌+ℤ◌, Some, None, sym, refl, ap, ◌∙◌, arith, eqb-true, le-leb}
+use Rattle.std.proofs.Common.{◌≡◌, ℕ, ◌<◌, Bool, true, false, cond, eqb, ℤ, pos, ◌+ℤ◌, Some, None, sym, refl, ap, ◌∙◌, arith, eqb-true, le-leb}
 use lib.IntN.{+ℤ_idr}
 use borrow.Author.Tests.{eqb-false, lt-leb}
 use Rattle.faults.specs.declared.Refusal.TheVariants.{UnknownAccount, OutOfRange, NoCapacity}

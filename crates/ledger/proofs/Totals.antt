@@ -1,5 +1,5 @@
 -- Totals within the limits.
-use Rattle.std.proofs.Common.{◌≡◌, ℕ, ◌<◌, ◌≤◌, Bool, true, false, cond, ℤ, pos, nat_abs, Some, None, Option, sym, refl, ap, ◌∙◌, subst, inl, inr, arith, le-leb, leb-true}
+use Rattle.std.proofs.Common.{◌≡◌, ℕ, ◌<◌, ℤ, nat_abs, Some, None, sym, subst, inl, inr, arith, le-leb, leb-true}
 use borrow.Author.Tests.{lt-leb}
 use Rattle.std.proofs.lemmas.Bool.{cases_Bool}
 use Rattle.ledger.specs.Limits.{Within, farthest_balance, inside}

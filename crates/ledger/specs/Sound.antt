@@ -1,6 +1,6 @@
 -- What such readings and ledgers show: unknown accounts have a balance of 0, and all figures are within the limits.
 use Rattle.std.specs.Prelude.{◌≡◌, ℕ, Bool, true, false, cond, ℤ, pos, is_some, Some, None, Option, unsigned_abs, refl}
-use Rattle.std.proofs.Common.{ap, inl, inr, arith, lit≤, leb-true}
+use Rattle.std.proofs.Common.{inl, inr, arith, lit≤, leb-true}
 use Rattle.std.proofs.lemmas.Bool.{cases_Bool}
 use Rattle.std.specs.Option.{unwrap_or}
 use Rattle.ledger.specs.Limits.{Within, farthest_balance, inside}

@@ -1,5 +1,5 @@
 -- A payment to a purse.
-use Rattle.std.proofs.Common.{◌≡◌, ℕ, ◌-◌, ◌<◌, true, false, cond, eqb, ℤ, pos, ◌+ℤ◌, sym, refl, ap, ◌∙◌, inr, arith, eqb-true}
+use Rattle.std.proofs.Common.{◌≡◌, ℕ, ◌-◌, ◌<◌, true, false, eqb, ℤ, ◌+ℤ◌, sym, refl, ◌∙◌, inr, arith, eqb-true}
 use Rattle.std.proofs.lemmas.Bool.{ne_eqb}
 use Rattle.ledger.specs.Meaning.{Meaning}
 use Rattle.ledger.specs.Payments.{Raised}

@@ -1,9 +1,9 @@
 -- Rounded quotients: how far they are off, where they are exact, and that they keep order.
-use Rattle.std.proofs.Common.{◌≡◌, ℕ, zero, suc, ◌+◌, ◌-◌, ◌*◌, ◌/◌, ◌<◌, ◌≤◌, ℤ, pos, negsuc, ◌-ℤ◌, ◌*ℤ◌, neg_ℤ, nat_abs, ◌≤ℤ◌, sym, refl, ap, ◌∙◌, subst, mul-le-mul_right, div-lt_iff_lt-mul, le-div_iff_mul-le, zero-mul, div-mul-le_self, arith}
+use Rattle.std.proofs.Common.{◌≡◌, ℕ, zero, suc, ◌+◌, ◌-◌, ◌*◌, ◌/◌, ◌<◌, ◌≤◌, ℤ, pos, negsuc, ◌-ℤ◌, ◌*ℤ◌, neg_ℤ, nat_abs, ◌≤ℤ◌, sym, refl, ap, ◌∙◌, subst, div-lt_iff_lt-mul, le-div_iff_mul-le, zero-mul, div-mul-le_self, arith}
 use native.Mathlib.Nat.{div-eq_of_lt-le, lt-div-mul-add}
 use lib.IntN.{neg_ℤ-neg_ℤ}
 use Rattle.std.proofs.lemmas.Int.{ints}
-use Rattle.prices.specs.Rounding.{down, up, nearest, nearestℤ}
+use Rattle.prices.specs.Rounding.{up, nearest, nearestℤ}
 
 -- ---- unsigned
 

@@ -1,5 +1,5 @@
 -- The sizes of the figures, for inputs within their limits.
-use Rattle.std.proofs.Common.{◌≡◌, ℕ, ◌+◌, ◌-◌, ◌*◌, ◌<◌, ◌≤◌, ℤ, pos, ◌+ℤ◌, ◌-ℤ◌, ◌*ℤ◌, nat_abs, sym, refl, subst, div-mul-le_self, le_of_mul-le-mul_right, arith, lit<}
+use Rattle.std.proofs.Common.{◌≡◌, ℕ, ◌*◌, ◌<◌, ◌≤◌, ℤ, pos, ◌+ℤ◌, ◌-ℤ◌, ◌*ℤ◌, nat_abs, sym, refl, subst, div-mul-le_self, le_of_mul-le-mul_right, arith, lit<}
 use Rattle.std.proofs.lemmas.Int.{ints}
 use Rattle.prices.specs.Prices.{bearing}
 use Rattle.prices.specs.Returns.{ratio}

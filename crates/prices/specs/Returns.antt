@@ -1,5 +1,5 @@
 -- The return from an index value a to the next value b, and its square.
-use Rattle.std.specs.Prelude.{ℕ, ◌+◌, ◌-◌, ◌*◌, ◌/◌, Bool, ◌&&◌, nat_le}
+use Rattle.std.specs.Prelude.{ℕ, ◌+◌, ◌-◌, ◌*◌, Bool, ◌&&◌, nat_le}
 use Rattle.prices.specs.Rounding.{down}
 
 -- whether b is admitted after a: neither is above 4/3 of the other

@@ -1,5 +1,5 @@
 -- The laws of `find_in`, `put_in` and `take_out` on any list, and what a put answers.
-use Rattle.std.proofs.Common.{◌≡◌, ℕ, ◌+◌, min, true, false, cond, ◌||◌, eqb, List, [], ◌∷◌, length, is_some, is_ok, Some, None, Result, ap, ◌∙◌, arith}
+use Rattle.std.proofs.Common.{◌≡◌, ℕ, ◌+◌, min, true, cond, ◌||◌, eqb, List, [], ◌∷◌, length, is_some, is_ok, Some, None, Result, ap, ◌∙◌, arith}
 use native.Mathlib.Nat.{min-le_left}
 use Rattle.std.proofs.lemmas.Bool.{cond-true}
 use Rattle.std.proofs.lemmas.Bool.Decides.{nat_tests}

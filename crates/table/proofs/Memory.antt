@@ -4,7 +4,7 @@ use Rattle.std.proofs.lemmas.List.{drop_at, drop-drop, get_or-take, length-appen
 use Rattle.table.specs.declared.keyed.Keyed.{Keyed}
 use Rattle.table.specs.declared.ordered.Table.{Table}
 use Rattle.table.specs.Rising.{rising}
-use Rattle.table.specs.View.{laid, memory, records, room}
+use Rattle.table.specs.View.{laid, memory, records}
 
 module _ {V : Type 0} (t : Table V) where
   pub length-records : length (records t) ≡ t.count

@@ -1,5 +1,5 @@
 -- A sum over the records after a put and after a take.
-use Rattle.std.proofs.Common.{◌≡◌, ℕ, true, false, cond, eqb, ltb, List, [], ◌∷◌, ℤ, pos, ◌+ℤ◌, ◌-ℤ◌, Some, None, arith}
+use Rattle.std.proofs.Common.{◌≡◌, ℕ, true, false, cond, eqb, ltb, List, [], ◌∷◌, ℤ, ◌+ℤ◌, ◌-ℤ◌, Some, None, arith}
 use borrow.Author.Differences.{ints}
 use Rattle.table.specs.declared.keyed.Keyed.{Keyed}
 use Rattle.table.specs.Records.{find_in, put_in, take_out, sum_of, amount_of}

@@ -1,4 +1,4 @@
-use Rattle.std.proofs.Common.{◌≡◌, ◌-◌, ◌/◌, ◌≤◌, true, length, vec_items}
+use Rattle.std.proofs.Common.{◌≡◌, ◌-◌, ◌/◌, ◌≤◌, length, vec_items}
 use Rattle.dayfile.proofs.runs.run.Given as goal
 use Rattle.dayfile.specs.Accounts.{numbers}
 use Rattle.dayfile.specs.Runs.{Runs, state}

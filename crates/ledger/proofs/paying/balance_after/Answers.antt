@@ -1,12 +1,10 @@
-use Rattle.std.proofs.Common.{◌≡◌, ◌+◌, get_or, take, pos, ◌+ℤ◌, sym, refl, ap, ◌∙◌, subst, arith, w64, SFits, rules}
+use Rattle.std.proofs.Common.{◌+◌, get_or, take, pos, ◌+ℤ◌, sym, ap, ◌∙◌, w64, SFits, rules}
 use lib.IntN.{+ℤ_idr}
 use Rattle.std.proofs.lemmas.List.{take_all, take_more}
 use Rattle.std.proofs.lemmas.Int.{to_z-of_z}
-use Rattle.ledger.specs.declared.payment.Payment.{Payment}
-use Rattle.ledger.specs.Limits.{Within}
 use Rattle.ledger.specs.Meaning.{Meaning, meaning}
 use Rattle.ledger.specs.Payments.{due}
-use Rattle.ledger.proofs.Money.{back, fits_within, sum-shown}
+use Rattle.ledger.proofs.Money.{sum-shown}
 use Rattle.ledger.proofs.Paid.{within-at, due-here, due-other}
 use Rattle.ledger.proofs.paying.balance_after.Goals as goal
 use Rattle.ledger.proofs.paying.balance_after.Goals.{then-payment-account, else-payment-account}

@@ -1,4 +1,4 @@
-use Rattle.std.proofs.Common.{◌≡◌, map, get_or, pos, sym, refl, ap, ◌∙◌}
+use Rattle.std.proofs.Common.{map, get_or, pos, sym, ap, ◌∙◌}
 use Rattle.std.proofs.lemmas.List.{take_all}
 use Rattle.faults.specs.Checks.{first_fault, verdict}
 use Rattle.ledger.specs.Meaning.{Meaning, meaning}

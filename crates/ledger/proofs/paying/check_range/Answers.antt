@@ -1,9 +1,9 @@
-use Rattle.std.proofs.Common.{◌≡◌, [], get_or, take, pos, ◌+ℤ◌, sym, refl, ap, ◌∙◌, subst, w64, SFits, rules}
+use Rattle.std.proofs.Common.{[], get_or, take, pos, sym, ap, ◌∙◌, w64, SFits, rules}
 use native.Mathlib.Numerals.{unary_clauses}
 use Rattle.std.proofs.lemmas.List.{take_all}
 use Rattle.faults.specs.Checks.{first_fault, verdict}
 use Rattle.ledger.specs.Meaning.{Meaning, meaning}
-use Rattle.ledger.specs.Payments.{due, range_check, range_checks}
+use Rattle.ledger.specs.Payments.{range_checks}
 use Rattle.ledger.proofs.Paid.{range_more, range_fails, range_shown}
 use Rattle.ledger.proofs.paying.check_range.Goals as goal
 

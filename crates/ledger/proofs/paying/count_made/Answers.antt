@@ -1,4 +1,4 @@
-use Rattle.std.proofs.Common.{◌≡◌, get_or, take, pos, sym, ap, ◌∙◌, arith}
+use Rattle.std.proofs.Common.{get_or, take, pos, sym, ap, ◌∙◌, arith}
 use Rattle.std.proofs.lemmas.List.{take_all, take_more}
 use Rattle.ledger.specs.declared.payment.Payment.{Payment}
 use Rattle.ledger.specs.Payments.{made}

@@ -1,4 +1,4 @@
-use Rattle.std.proofs.Common.{◌≡◌, get_or, take, pos, sym, refl, ap, ◌∙◌, subst, w64, SFits, rules}
+use Rattle.std.proofs.Common.{get_or, pos, sym, ◌∙◌, subst, w64, SFits, rules}
 use Rattle.std.proofs.lemmas.List.{take_all}
 use Rattle.std.proofs.lemmas.Int.{to_z-of_z}
 use Rattle.ledger.specs.Meaning.{Meaning, meaning}

@@ -1,4 +1,4 @@
-use Rattle.std.proofs.Common.{sym, refl, ap, ◌∙◌}
+use Rattle.std.proofs.Common.{refl, ap, ◌∙◌}
 use Rattle.balances.specs.Accounts.{listed}
 use Rattle.balances.proofs.Listing.{on_accepted, on_refused}
 use Rattle.balances.proofs.rows.Rows.new.Goals as goal

@@ -1,4 +1,4 @@
-use Rattle.std.proofs.Common.{◌≡◌, pos, sym, refl, ap, ◌∙◌}
+use Rattle.std.proofs.Common.{pos, refl, ap, ◌∙◌}
 use Rattle.balances.specs.Accounts.{listed}
 use Rattle.balances.specs.Lookup.{lookup}
 use Rattle.balances.specs.Table.{value_in}

@@ -1,4 +1,4 @@
-use Rattle.std.proofs.Common.{◌≡◌, pos, sym, ap, ◌∙◌, arith}
+use Rattle.std.proofs.Common.{pos, sym, ap, ◌∙◌, arith}
 use Rattle.ledger.proofs.Money.{back_within}
 use Rattle.balances.specs.Sound.{lookup_none}
 use Rattle.balances.specs.Table.{value_in}

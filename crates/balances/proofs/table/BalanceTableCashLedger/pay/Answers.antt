@@ -1,4 +1,4 @@
-use Rattle.std.proofs.Common.{◌≡◌, ◌<◌, length, pos, ◌+ℤ◌, sym, ap, ◌∙◌, arith, lit≤}
+use Rattle.std.proofs.Common.{◌<◌, length, pos, ◌+ℤ◌, sym, ap, ◌∙◌, arith, lit≤}
 use Rattle.ledger.proofs.Money.{reached-within, reaches-amount, sum_back}
 use Rattle.ledger.proofs.Refused.{same_self, unknown-refused, range_refused, not_refused}
 use Rattle.ledger.proofs.Money.{fits_within}

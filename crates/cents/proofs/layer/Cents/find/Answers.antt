@@ -1,4 +1,4 @@
-use Rattle.std.proofs.Common.{◌≡◌, sym, refl, ap, ◌∙◌, subst, inl, inr, arith, w64, SFits, rules}
+use Rattle.std.proofs.Common.{sym, ap, ◌∙◌, subst, inl, inr, arith, w64, SFits, rules}
 use Rattle.ledger.specs.Limits.{Within}
 use Rattle.ledger.specs.Meaning.{Meaning, meaning}
 use Rattle.balances.proofs.Listing.{has_first}

@@ -1,4 +1,4 @@
-use Rattle.std.proofs.Common.{◌≡◌, sym, refl, ap, ◌∙◌, subst, w64, SFits, rules}
+use Rattle.std.proofs.Common.{sym, refl, ap, ◌∙◌, subst, w64, SFits, rules}
 use Rattle.ledger.specs.Limits.{Within}
 use Rattle.cents.specs.Layer.{lowest_over}
 use Rattle.cents.proofs.Layers.{lowest-past, lowest-shown, past-shown}

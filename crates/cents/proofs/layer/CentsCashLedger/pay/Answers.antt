@@ -2,13 +2,13 @@ use Rattle.std.proofs.Common.{◌≡◌, ◌<◌, ◌≤◌, length, pos, ◌+�
 use Rattle.std.proofs.lemmas.Int.{to_z-of_z}
 use Rattle.prices.specs.Cents.{cents, rest}
 use Rattle.balances.specs.Accounts.{listed}
-use Rattle.ledger.specs.Limits.{is_zero, reaches}
+use Rattle.ledger.specs.Limits.{is_zero}
 use Rattle.ledger.specs.Meaning.{Meaning, meaning}
 use Rattle.ledger.specs.Payments.{fault_of}
 use Rattle.ledger.proofs.Checks.{clash}
 use Rattle.ledger.proofs.Money.{back}
 use Rattle.ledger.proofs.Refused.{same_self, unknown-refused, range_refused, capacity-refused, not_refused}
-use Rattle.cents.specs.Layer.{lowest_over, rest_of}
+use Rattle.cents.specs.Layer.{rest_of}
 use Rattle.cents.specs.Sends.{Below}
 use Rattle.cents.proofs.Layers.{amount_size, below-open, below_raised, layer-raised, layer-sent, new-within, range_at, range_shown, rest-small, total-told}
 use Rattle.cents.proofs.Splits.{cents-few, sum_fits, sum-shown}

@@ -1,5 +1,4 @@
-use Rattle.std.proofs.Common.{arith, rules}
-use Rattle.std.proofs.lemmas.Bool.Decides.{nat_tests}
+use Rattle.std.proofs.Common.{rules}
 use Rattle.contract.specs.Formulas.{square_between}
 use Rattle.contract.proofs.figures.IndexRecord.keep.Goals as goal
 

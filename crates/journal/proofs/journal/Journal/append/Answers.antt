@@ -1,6 +1,6 @@
-use Rattle.std.proofs.Common.{◌≡◌, ℕ, ◌+◌, ◌*◌, ◌/◌, ◌%◌, set, sym, refl, ap, ◌∙◌, w64, SFits, of_z, rules}
+use Rattle.std.proofs.Common.{refl, ap, ◌∙◌, w64, SFits, of_z, rules}
 use Rattle.std.proofs.lemmas.Int.{to_z-of_z}
-use Rattle.journal.specs.Lines.{part, word, written}
+use Rattle.journal.specs.Lines.{written}
 use Rattle.journal.proofs.journal.Journal.append.Goals as goal
 
 pub returns : goal.returns

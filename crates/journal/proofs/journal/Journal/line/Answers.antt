@@ -1,4 +1,4 @@
-use Rattle.std.proofs.Common.{◌≡◌, Some, sym, refl, ap, ◌∙◌, arith}
+use Rattle.std.proofs.Common.{Some, sym, ap, ◌∙◌, arith}
 use Rattle.journal.proofs.Lines.{line_number, no_line}
 use Rattle.journal.proofs.journal.Journal.line.Goals as goal
 

@@ -1,4 +1,4 @@
-use Rattle.std.proofs.Common.{◌≡◌, ◌*◌, ◌%◌, get_or, ℤ, ap, ◌∙◌, w64, SFits, rules}
+use Rattle.std.proofs.Common.{◌*◌, ◌%◌, get_or, ℤ, ap, ◌∙◌, w64, SFits, rules}
 use Rattle.std.proofs.lemmas.Int.{to_z-of_z}
 use Rattle.ledger.specs.declared.payment.Payment.{Payment}
 use Rattle.journal.specs.Lines.{line_at, part}

@@ -1,13 +1,11 @@
-use Rattle.std.proofs.Common.{◌≡◌, ◌+◌, ◌*◌, ◌/◌, ◌<◌, ◌≤◌, min, true, ◌&&◌, leb, length, ℤ, pos, negsuc, ◌+ℤ◌, nat_abs, Some, None, sym, refl, ap, ◌∙◌, subst, arith, w64, SFits, to_z, of_z, rules}
+use Rattle.std.proofs.Common.{◌≡◌, ◌+◌, ◌*◌, ◌/◌, ◌<◌, ◌≤◌, min, length, pos, negsuc, ◌+ℤ◌, nat_abs, Some, sym, ap, ◌∙◌, subst, arith, w64, SFits, rules}
 use lib.Signed.{lt_z}
-use Rattle.std.proofs.lemmas.Int.{to_z-of_z, ints}
-use Rattle.ledger.specs.Limits.{Within, farthest_balance}
-use Rattle.ledger.specs.Payments.{due, due_of}
+use Rattle.ledger.specs.Limits.{farthest_balance}
+use Rattle.ledger.specs.Payments.{due}
 use Rattle.ledger.specs.Totals.{if_within}
 use Rattle.ledger.proofs.Money.{back, back_within}
 use Rattle.ledger.proofs.Totals.{if_inside, if_outside}
-use Rattle.journal.specs.Lines.{lines_in, lines_of}
-use Rattle.journal.specs.Meaning.{journal_total, spans}
+use Rattle.journal.specs.Lines.{lines_in}
 use Rattle.journal.proofs.Lines.{lines_none}
 use Rattle.journal.proofs.Journals.{above-limit, below-limit, inside-limits, spans-shown, sum-128, sum_more, total-in, total-out}
 use Rattle.journal.proofs.journal.Journal.total.Goals as goal

@@ -1,4 +1,4 @@
-use Rattle.std.proofs.Common.{◌≡◌, ◌/◌, ◌<◌, length, pos, negsuc, is_some, unwrap_or, sym, refl, ap, ◌∙◌, subst, arith, lit≤, w64}
+use Rattle.std.proofs.Common.{◌/◌, ◌<◌, length, pos, negsuc, is_some, unwrap_or, sym, refl, ap, ◌∙◌, arith, lit≤, w64}
 use Rattle.std.proofs.lemmas.Int.{to_z-of_z}
 use Rattle.ledger.specs.Limits.{is_zero, reaches}
 use Rattle.ledger.proofs.Money.{fits_within, reached-within, reaches-amount}

@@ -1,4 +1,4 @@
-use Rattle.std.proofs.Common.{pos, sym, ◌∙◌}
+use Rattle.std.proofs.Common.{sym, ◌∙◌}
 use Rattle.std.proofs.lemmas.Bool.{cond-false, cond-true, eq-eqb, ne_eqb}
 use Rattle.ledger.proofs.Money.{back_within}
 use Rattle.ledger_tests.proofs.purse.PurseBalanceReader.balance_of.Goals as goal

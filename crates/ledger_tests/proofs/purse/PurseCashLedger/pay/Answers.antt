@@ -1,5 +1,4 @@
-use Rattle.std.proofs.Common.{◌≡◌, ◌<◌, pos, sym, refl, ap, ◌∙◌, arith}
-use Rattle.ledger.specs.Limits.{reaches}
+use Rattle.std.proofs.Common.{◌<◌, sym, ◌∙◌, arith}
 use Rattle.ledger.proofs.Money.{fits_within, reached-within, reaches-back, sum_back}
 use Rattle.ledger.proofs.Refused.{same_self, unknown-refused, range_refused, capacity-refused, not_refused}
 use Rattle.ledger_tests.proofs.Purses.{purse_raised}

@@ -1,4 +1,4 @@
-use Rattle.std.proofs.Common.{◌≡◌, min, ◌||◌, ltb, length, is_some, sym, ap, ◌∙◌}
+use Rattle.std.proofs.Common.{min, ◌||◌, ltb, length, is_some, sym, ap, ◌∙◌}
 use Rattle.std.proofs.lemmas.Bool.{or_left}
 use Rattle.table.specs.Records.{find_in}
 use Rattle.table.specs.View.{records, room}

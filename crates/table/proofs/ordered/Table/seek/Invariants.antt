@@ -1,4 +1,4 @@
-use Rattle.std.proofs.Common.{◌≡◌, ◌-◌, ◌<◌, ◌≤◌, length, get_or, take}
+use Rattle.std.proofs.Common.{◌-◌, ◌<◌, ◌≤◌, length, get_or, take}
 use Rattle.std.specs.List.{AllByRecursion as All}
 use Rattle.table.specs.declared.keyed.Keyed.{Keyed}
 use Rattle.table.specs.View.{records}
