@@ -7,7 +7,7 @@ use Rattle.contract.specs.declared.calls.Answer.{Answer}
 use Rattle.contract.specs.declared.calls.Answer.TheVariants.{Done}
 use Rattle.contract.specs.declared.calls.Call.{Call}
 use Rattle.contract.specs.declared.calls.Call.TheVariants.{List as list, Open as start, Trade as trade, Bust as bust, Close as close, Accrue as accrue, Settle as settle}
-use Rattle.contract.specs.declared.faults.ContractFault.{ContractFault}
+use Rattle.contract.specs.declared.call_fault.ContractFault.{ContractFault}
 use Rattle.contract.specs.declared.figures.Figures.{Figures}
 use Rattle.contract.specs.declared.figures.IndexRecord.{IndexRecord}
 use Rattle.contract.specs.declared.figures.Phase.{Phase}

@@ -5,9 +5,9 @@ ghost use Rattle.faults.specs.Checks.{first_fault};
 ghost use Rattle.contract.specs.Sound.{value_or_one};
 ghost use Rattle.contract.specs.Step.{unlisted, listed as listed_at, accrued, input_checks, state_checks, checks, Ends, Step as StepOf};
 
+use crate::call_fault::ContractFault;
 use crate::calls::{Answer, Call};
 use crate::contract::Contract;
-use crate::faults::ContractFault;
 use crate::figures::{Figures, IndexRecord, Phase};
 use crate::settlement::settlement_price;
 use faults::{Fault, Refusal};

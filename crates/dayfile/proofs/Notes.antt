@@ -2,7 +2,7 @@
 use Rattle.std.proofs.Common.{◌≡◌, ℕ, cond, List, is_ok, Some, None, Err, Option, Result, sym, refl, ◌∙◌, subst, arith}
 use Rattle.contract.specs.declared.figures.Figures.{Figures}
 use Rattle.dayfile.specs.Accounts.{account_checks, noted}
-use Rattle.dayfile.specs.declared.faults.Cause.TheVariants as cause
+use Rattle.dayfile.specs.declared.file_fault.Cause.TheVariants as cause
 use Rattle.dayfile.specs.declared.lines.Line.{Line}
 use Rattle.dayfile.specs.Runs.{State, state, Unchanged, Notes}
 use Rattle.faults.specs.Checks.{verdict, first_fault}

@@ -1,6 +1,6 @@
 -- What a turn of the reader tells of the file, and what it adds to a run.
 use Rattle.std.proofs.Common.{◌≡◌, ℕ, ◌+◌, ◌/◌, ◌<◌, ◌≤◌, Bool, true, false, cond, ltb, List, length, Some, None, Ok, Err, Option, Result, sym, refl, ap, ◌∙◌, subst, inl, inr, arith, ltb-false, ltb-true}
-use Rattle.dayfile.specs.declared.faults.FileFault.{FileFault}
+use Rattle.dayfile.specs.declared.file_fault.FileFault.{FileFault}
 use Rattle.dayfile.specs.declared.reader.Item.{Item}
 use Rattle.dayfile.specs.declared.reader.Placed.{Placed}
 use Rattle.dayfile.specs.declared.reader.Read.{Read}

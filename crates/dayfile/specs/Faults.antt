@@ -1,6 +1,6 @@
 -- The refusal that ended a run.
-use Rattle.dayfile.specs.declared.faults.Cause.{Cause}
-use Rattle.dayfile.specs.declared.faults.Cause.TheVariants.{File, Account, Call, Memory}
+use Rattle.dayfile.specs.declared.file_fault.Cause.{Cause}
+use Rattle.dayfile.specs.declared.file_fault.Cause.TheVariants.{File, Account, Call, Memory}
 use Rattle.faults.specs.declared.Fault.{Fault}
 use Rattle.faults.specs.Refusals.{plain}
 use Rattle.std.specs.Prelude.{Some, None, Option}

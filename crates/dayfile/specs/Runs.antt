@@ -6,9 +6,9 @@ use Rattle.contract.specs.declared.calls.Call.TheVariants as call
 use Rattle.contract.specs.declared.figures.Figures.{Figures}
 use Rattle.contract.specs.Step.{Step}
 use Rattle.dayfile.specs.Accounts.{account_checks, noted}
-use Rattle.dayfile.specs.declared.faults.Cause.{Cause}
-use Rattle.dayfile.specs.declared.faults.Cause.TheVariants as cause
-use Rattle.dayfile.specs.declared.faults.FileFault.{FileFault}
+use Rattle.dayfile.specs.declared.file_fault.Cause.{Cause}
+use Rattle.dayfile.specs.declared.file_fault.Cause.TheVariants as cause
+use Rattle.dayfile.specs.declared.file_fault.FileFault.{FileFault}
 use Rattle.dayfile.specs.declared.lines.Line.{Line}
 use Rattle.dayfile.specs.declared.lines.Line.TheVariants.{Close}
 use Rattle.dayfile.specs.declared.reader.Item.{Item}

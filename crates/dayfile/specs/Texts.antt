@@ -2,9 +2,9 @@
 use Rattle.std.specs.Prelude.{ℕ, ◌/◌, ◌%◌, cond, List, [], ◌++◌, ℤ, pos, negsuc, Some, None, codes, decimal, Option, nat_lt, unsigned_abs}
 use Rattle.contract.specs.declared.calls.CallName.{CallName}
 use Rattle.contract.specs.declared.calls.CallName.TheVariants as name
-use Rattle.dayfile.specs.declared.faults.Cause.{Cause}
-use Rattle.dayfile.specs.declared.faults.Cause.TheVariants.{File, Account, Call, Memory}
-use Rattle.dayfile.specs.declared.faults.FileFault.{FileFault}
+use Rattle.dayfile.specs.declared.file_fault.Cause.{Cause}
+use Rattle.dayfile.specs.declared.file_fault.Cause.TheVariants.{File, Account, Call, Memory}
+use Rattle.dayfile.specs.declared.file_fault.FileFault.{FileFault}
 use Rattle.dayfile.specs.declared.lines.Line.{Line}
 use Rattle.dayfile.specs.declared.lines.Line.TheVariants.{Close}
 use Rattle.dayfile.specs.Faults.{fault_of}

@@ -1,8 +1,8 @@
 -- How the bytes of a day file stand for calls.
 use Rattle.std.specs.Prelude.{◌≡◌, ℕ, ◌+◌, ◌*◌, ◌/◌, ◌%◌, ◌^◌, Bool, true, false, cond, ◌&&◌, List, length, Some, None, Ok, Err, Option, Result, ◌==◌, nat_le, nat_lt, slice_index}
 use Rattle.contract.specs.declared.calls.Call.TheVariants as call
-use Rattle.dayfile.specs.declared.faults.Cause.TheVariants.{File}
-use Rattle.dayfile.specs.declared.faults.FileFault.{FileFault}
+use Rattle.dayfile.specs.declared.file_fault.Cause.TheVariants.{File}
+use Rattle.dayfile.specs.declared.file_fault.FileFault.{FileFault}
 use Rattle.dayfile.specs.declared.reader.Item.{Item}
 use Rattle.dayfile.specs.declared.reader.Item.TheVariants.{Account, Call}
 use Rattle.dayfile.specs.declared.reader.Placed.{Placed}

@@ -3,7 +3,7 @@
 
 pub mod account_list;
 mod accounts;
-pub mod faults;
+pub mod file_fault;
 pub mod limits;
 pub mod lines;
 pub mod reader;
@@ -12,7 +12,7 @@ mod texts;
 mod words;
 
 pub use account_list::AccountList;
-pub use faults::{Cause, FileFault};
+pub use file_fault::{Cause, FileFault};
 pub use lines::Line;
 pub use reader::{Item, Placed, Reader};
 pub use runs::run;

@@ -2,7 +2,7 @@
 ghost use Rattle.std.specs.Prelude.{◌≡◌, ◌/◌, ◌<◌, length};
 ghost use Rattle.dayfile.specs.Words.{wrong, item_at, next_at, place_after, Made};
 
-use crate::faults::{Cause, FileFault};
+use crate::file_fault::{Cause, FileFault};
 use crate::limits::LONGEST_FILE;
 use crate::words::{BODIES, one_word, two_words, word_at};
 use contract::Call;

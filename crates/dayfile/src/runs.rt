@@ -4,7 +4,7 @@ ghost use Rattle.dayfile.specs.Accounts.{numbers};
 ghost use Rattle.dayfile.specs.Runs.{state, Acts, Serves, Finished};
 
 use crate::account_list::AccountList;
-use crate::faults::{Cause, FileFault};
+use crate::file_fault::{Cause, FileFault};
 use crate::lines::{Line, line_of};
 use crate::reader::{Item, Placed, Reader};
 use contract::Contract;

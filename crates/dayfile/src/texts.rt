@@ -2,7 +2,7 @@
 ghost use Rattle.std.specs.Prelude.{◌≡◌, Some};
 ghost use Rattle.dayfile.specs.Texts.{sign, point_of_four, point_of_eight, money, accumulated, line_text, call_word, fault_text};
 
-use crate::faults::{Cause, FileFault};
+use crate::file_fault::{Cause, FileFault};
 use crate::lines::Line;
 use contract::CallName;
 use std::fmt;

@@ -1,6 +1,6 @@
 -- What `find_in`, `put_in`, `take_out` and a put's answer are at the place of a key.
 use Rattle.std.proofs.Common.{◌≡◌, ℕ, ◌+◌, ◌<◌, ◌≤◌, true, false, List, [], ◌∷◌, ◌++◌, length, get_or, take, drop, set, is_some, Some, None, Ok, Err, sym, refl, ap, ◌∙◌, subst, add-zero, add-one, arith}
-use Rattle.std.specs.List.{insert, remove, AllByRecursion as All}
+use Rattle.std.specs.List.{insert, remove, AllByRecursion}
 use Rattle.std.proofs.lemmas.List.{drop_more, get_or-drop, length-drop, take-append-drop, set_split}
 use Rattle.std.proofs.lemmas.Bool.{lt-ltb, le-ltb, eq-eqb, ne_eqb, cond-true, cond-false}
 use Rattle.table.specs.declared.keyed.Keyed.{Keyed}
@@ -11,15 +11,15 @@ use Rattle.table.specs.View.{put_answer}
 
 module _ {V : Type 0} (k : ℕ) where
   -- lower keys are passed over
-  find_past : (ps qs : List (Keyed V)) → All (λ x. x.key < k) ps → find_in k (ps ++ qs) ≡ find_in k qs
+  find_past : (ps qs : List (Keyed V)) → AllByRecursion (λ x. x.key < k) ps → find_in k (ps ++ qs) ≡ find_in k qs
   find_past [] qs _ = refl
   find_past (p ∷ ps) qs (low, lows) = cond-true _ _ _ (lt-ltb p.key k low) ∙ find_past ps qs lows
 
-  take_past : (ps qs : List (Keyed V)) → All (λ x. x.key < k) ps → take_out k (ps ++ qs) ≡ ps ++ take_out k qs
+  take_past : (ps qs : List (Keyed V)) → AllByRecursion (λ x. x.key < k) ps → take_out k (ps ++ qs) ≡ ps ++ take_out k qs
   take_past [] qs _ = refl
   take_past (p ∷ ps) qs (low, lows) = cond-true _ _ _ (lt-ltb p.key k low) ∙ ap (λ q. p ∷ q) (take_past ps qs lows)
 
-  put_past : (r : Keyed V) → r.key ≡ k → (ps qs : List (Keyed V)) → All (λ x. x.key < k) ps → put_in r (ps ++ qs) ≡ ps ++ put_in r qs
+  put_past : (r : Keyed V) → r.key ≡ k → (ps qs : List (Keyed V)) → AllByRecursion (λ x. x.key < k) ps → put_in r (ps ++ qs) ≡ ps ++ put_in r qs
   put_past r e [] qs _ = refl
   put_past r e (p ∷ ps) qs (low, lows) = cond-true _ _ _ (lt-ltb p.key r.key (omega arith)) ∙ ap (λ q. p ∷ q) (put_past r e ps qs lows)
 

@@ -1,6 +1,6 @@
 // Why a run over a day file ends early.
 ghost use Rattle.std.specs.Prelude.{◌≡◌};
-ghost use Rattle.dayfile.specs.declared.faults.Cause.TheVariants as cause;
+ghost use Rattle.dayfile.specs.declared.file_fault.Cause.TheVariants as cause;
 ghost use Rattle.dayfile.specs.Faults.{fault_of};
 
 use contract::ContractFault;
