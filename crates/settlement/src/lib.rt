@@ -1,0 +1,14 @@
+// The payments of a close or of the settlement, to every account of a table, over any cash ledger.
+#![tactic(auto)]
+
+mod checking;
+mod ending;
+mod laws;
+mod limits;
+mod payment;
+mod settling;
+
+pub use ending::Ending;
+pub use laws::payments_cancel;
+pub use payment::payment_to;
+pub use settling::settle_accounts;
