@@ -1,7 +1,7 @@
 // The calls on a list of accounts.
 ghost use Rattle.std.specs.Prelude.{◌≡◌, ◌<◌, [], ◌∷◌, ◌++◌, length, is_ok, if◌then◌else◌, nat_lt};
 ghost use Rattle.faults.specs.Checks.{first_fault, verdict};
-ghost use Rattle.dayfile.specs.Accounts.{numbers as numbersOf, has as hasIn, noted, account_checks, place_check};
+ghost use Rattle.dayfile.specs.Accounts.{numbers as numbers_of, has as has_in, noted, account_checks, place_check};
 ghost use Rattle.dayfile.specs.Limits.{most_accounts};
 
 use crate::account_list::AccountList;
@@ -11,7 +11,7 @@ use faults::{Fault, Refusal};
 use quantities::AccountNumber;
 
 fn has(numbers: &[u32], account: u32) -> bool
-    ensures { result ≡ hasIn numbers.now account }
+    ensures { result ≡ has_in numbers.now account }
 {
     for number in numbers {
         if *number == account {
@@ -24,7 +24,7 @@ fn has(numbers: &[u32], account: u32) -> bool
 impl AccountList {
     // A list of no accounts.
     pub fn new() -> AccountList
-        ensures { numbersOf result ≡ [] }
+        ensures { numbers_of result ≡ [] }
     {
         AccountList {
             places: [0; MOST_ACCOUNTS],
@@ -33,15 +33,15 @@ impl AccountList {
     }
 
     pub fn numbers(&self) -> &[u32]
-        ensures { result.now ≡ numbersOf self.now }
+        ensures { result.now ≡ numbers_of self.now }
     {
         &self.places[0..self.count]
     }
 
     // Puts an account at the end of the list, if there is a place.
     fn put(&mut self, account: u32) -> Result<(), Fault>
-        ensures answer { result ≡ verdict tt (first_fault (place_check (nat_lt (length (numbersOf self.old)) most_accounts) account ∷ [])) }
-        ensures numbers { numbersOf self.new ≡ (if is_ok result then numbersOf self.old ++ (account ∷ []) else numbersOf self.old) }
+        ensures answer { result ≡ verdict tt (first_fault (place_check (nat_lt (length (numbers_of self.old)) most_accounts) account ∷ [])) }
+        ensures numbers { numbers_of self.new ≡ (if is_ok result then numbers_of self.old ++ (account ∷ []) else numbers_of self.old) }
     {
         let count = self.count;
         if count >= MOST_ACCOUNTS {
@@ -57,8 +57,8 @@ impl AccountList {
 
     // Notes an account that is named before the listing; a repeated one counts once.
     pub(crate) fn admit(&mut self, phase: Phase, account: u32) -> Result<(), Fault>
-        ensures answer { result ≡ verdict tt (first_fault (account_checks phase (numbersOf self.old) account)) }
-        ensures numbers { numbersOf self.new ≡ (if is_ok result then noted (numbersOf self.old) account else numbersOf self.old) }
+        ensures answer { result ≡ verdict tt (first_fault (account_checks phase (numbers_of self.old) account)) }
+        ensures numbers { numbers_of self.new ≡ (if is_ok result then noted (numbers_of self.old) account else numbers_of self.old) }
     {
         AccountNumber::of(account)?;
         let Phase::Unlisted = phase else {
