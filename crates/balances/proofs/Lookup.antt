@@ -9,30 +9,30 @@ first_tail : (x : ℕ) (xs : List ℕ) (a i : ℕ) → First (x ∷ xs) a (suc i
 first_tail x xs a i p = (ne_eqb x a (p.earlier 0 (omega arith)), record { below = omega (arith, p.below); here = p.here; earlier = λ k h e. p.earlier (suc k) (omega arith) e })
 
 module _ {R V : Type 0} (f : R → V) (z : V) where
-  pub lookup-at : (xs : List ℕ) (rs : List R) (a i : ℕ) (d : R) → First xs a i → i < length rs → lookup f z xs rs a ≡ f (get_or rs i d)
+  pub lookup_at : (xs : List ℕ) (rs : List R) (a i : ℕ) (d : R) → First xs a i → i < length rs → lookup f z xs rs a ≡ f (get_or rs i d)
   unfolding lookup
-  lookup-at [] rs a i d p h = absurd (omega (arith, p.below))
-  lookup-at (x ∷ xs) [] a i d p h = absurd (omega arith)
-  lookup-at (x ∷ xs) (r ∷ rs) a zero d p h = let e : eqb x a ≡ true = eq-eqb x a p.here in simp e
-  lookup-at (x ∷ xs) (r ∷ rs) a (suc i) d p h =
+  lookup_at [] rs a i d p h = absurd (omega (arith, p.below))
+  lookup_at (x ∷ xs) [] a i d p h = absurd (omega arith)
+  lookup_at (x ∷ xs) (r ∷ rs) a zero d p h = let e : eqb x a ≡ true = eq-eqb x a p.here in simp e
+  lookup_at (x ∷ xs) (r ∷ rs) a (suc i) d p h =
       let q = first_tail x xs a i p in
       let e = q.0 in
-      simp e (lookup-at xs rs a i d q.1 (omega arith))
+      simp e (lookup_at xs rs a i d q.1 (omega arith))
 
   pub lookup-set : (xs : List ℕ) (rs : List R) (a i : ℕ) (w : R) → First xs a i → i < length rs → lookup f z xs (set rs i w) a ≡ f w
-  lookup-set xs rs a i w p h = lookup-at xs (set rs i w) a i w p (rw length-set h) ∙ ap f (get_or-set_same rs i w w h)
+  lookup-set xs rs a i w p h = lookup_at xs (set rs i w) a i w p (rw length-set h) ∙ ap f (get_or-set_same rs i w w h)
 
-  pub lookup-other : (xs : List ℕ) (rs : List R) (a i b : ℕ) (w : R) → i < length xs → get_or xs i 0 ≡ a → (b ≡ a → ⊥) → lookup f z xs (set rs i w) b ≡ lookup f z xs rs b
+  pub lookup_other : (xs : List ℕ) (rs : List R) (a i b : ℕ) (w : R) → i < length xs → get_or xs i 0 ≡ a → (b ≡ a → ⊥) → lookup f z xs (set rs i w) b ≡ lookup f z xs rs b
   unfolding lookup
-  lookup-other [] rs a i b w h e ne = refl
-  lookup-other (x ∷ xs) [] a i b w h e ne = refl
-  lookup-other (x ∷ xs) (c ∷ rs) a zero b w h e ne = let g : eqb x b ≡ false = ne_eqb x b (λ q. ne (sym q ∙ e)) in simp g
-  lookup-other (x ∷ xs) (c ∷ rs) a (suc i) b w h e ne =
-      ap (λ v. cond (eqb x b) (f c) v) (lookup-other xs rs a i b w (omega arith) e ne)
+  lookup_other [] rs a i b w h e ne = refl
+  lookup_other (x ∷ xs) [] a i b w h e ne = refl
+  lookup_other (x ∷ xs) (c ∷ rs) a zero b w h e ne = let g : eqb x b ≡ false = ne_eqb x b (λ q. ne (sym q ∙ e)) in simp g
+  lookup_other (x ∷ xs) (c ∷ rs) a (suc i) b w h e ne =
+      ap (λ v. cond (eqb x b) (f c) v) (lookup_other xs rs a i b w (omega arith) e ne)
 
-  pub lookup-same : (n : ℕ) (w : R) → f w ≡ z → (xs : List ℕ) (a : ℕ) → lookup f z xs (replicate n w) a ≡ z
+  pub lookup_same : (n : ℕ) (w : R) → f w ≡ z → (xs : List ℕ) (a : ℕ) → lookup f z xs (replicate n w) a ≡ z
   unfolding lookup
-  lookup-same zero w e [] a = refl
-  lookup-same zero w e (x ∷ xs) a = refl
-  lookup-same (suc n) w e [] a = refl
-  lookup-same (suc n) w e (x ∷ xs) a = elim (cases_Bool (eqb x a)) [ inl t ↦ rw t e | inr t ↦ rw t (lookup-same n w e xs a) ]
+  lookup_same zero w e [] a = refl
+  lookup_same zero w e (x ∷ xs) a = refl
+  lookup_same (suc n) w e [] a = refl
+  lookup_same (suc n) w e (x ∷ xs) a = elim (cases_Bool (eqb x a)) [ inl t ↦ rw t e | inr t ↦ rw t (lookup_same n w e xs a) ]

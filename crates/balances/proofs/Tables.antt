@@ -7,7 +7,7 @@ use Rattle.balances.specs.declared.balance.Balance.{Balance}
 use Rattle.balances.specs.Lists.{First}
 use Rattle.balances.specs.Lookup.{lookup}
 use Rattle.balances.specs.Table.{value_in, table_reading}
-use Rattle.balances.proofs.Lookup.{lookup-other, lookup-set}
+use Rattle.balances.proofs.Lookup.{lookup_other, lookup-set}
 
 abbrev pub table : List ℕ → List Balance → Meaning
 table xs rows = meaning {S = Unit {0}} (λ _. table_reading xs rows) (λ _. widest 64) tt
@@ -16,7 +16,7 @@ pub table_raised : (xs : List ℕ) (rows : List Balance) (a i : ℕ) (row : Bala
 table_raised xs rows a i row x p h e = record {
   known = λ _. refl;
   here = lookup-set value_in (pos 0) xs rows a i row p h ∙ e;
-  others = λ b ne. lookup-other value_in (pos 0) xs rows a i b row p.below p.here ne;
+  others = λ b ne. lookup_other value_in (pos 0) xs rows a i b row p.below p.here ne;
   capacity = inl refl;
   lowest = refl;
   highest = refl;

@@ -19,15 +19,15 @@ whole_size (pos n) h = omega (arith, ints)
 whole_size (negsuc n) h = omega (arith, ints)
 
 module _ (x : ℤ) (o : ℕ) (size : nat_abs x ≤ 4000000000000000000) (h : o < 100) where
-  pub cents-size : nat_abs (cents (x +ℤ pos o) *ℤ pos 100) ≤ 4000000000000000000
-  cents-size =
+  pub cents_size : nat_abs (cents (x +ℤ pos o) *ℤ pos 100) ≤ 4000000000000000000
+  cents_size =
       let s = splits (x +ℤ pos o) in
       let e = s.sum in
       let r = s.small in
       whole_size (cents (x +ℤ pos o)) (omega (arith, ints))
 
-  pub cents-few : nat_abs (cents (x +ℤ pos o)) ≤ 40000000000000001
-  cents-few = few (cents (x +ℤ pos o)) cents-size
+  pub cents_few : nat_abs (cents (x +ℤ pos o)) ≤ 40000000000000001
+  cents_few = few (cents (x +ℤ pos o)) cents_size
     where
       few : (c : ℤ) → nat_abs (c *ℤ pos 100) ≤ 4000000000000000000 → nat_abs c ≤ 40000000000000001
       few (pos n) h = omega (arith, ints)
@@ -45,5 +45,5 @@ module _ (x : ℤ) (o : ℕ) (size : nat_abs x ≤ 4000000000000000000) (h : o <
     pub sum_fits : SFits w64 (back x +ℤ to_z w64 o)
     sum_fits = subst (SFits w64) (sym inner) fits
 
-    pub sum-shown : back (back x +ℤ to_z w64 o) ≡ x +ℤ pos o
-    sum-shown = ap back inner ∙ to_z-of_z w64 (x +ℤ pos o) fits
+    pub sum_shown : back (back x +ℤ to_z w64 o) ≡ x +ℤ pos o
+    sum_shown = ap back inner ∙ to_z-of_z w64 (x +ℤ pos o) fits

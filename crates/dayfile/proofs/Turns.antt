@@ -17,19 +17,19 @@ either_way : (words i : ℕ) (b : Bool) (x y : Result Read FileFault) → (b ≡
 either_way words i true x y p q = p refl
 either_way words i false x y p q = q
 
-single-ends : (words i : ℕ) (o : Option Item) → i < words → Ends words i (of_single i o)
-single-ends words i None h = tt
-single-ends words i (Some item) h = (omega arith, omega arith)
+single_ends : (words i : ℕ) (o : Option Item) → i < words → Ends words i (of_single i o)
+single_ends words i None h = tt
+single_ends words i (Some item) h = (omega arith, omega arith)
 
-double-ends : (words i : ℕ) (o : Result Item ℕ) → i + 1 < words → Ends words i (of_double i o)
-double-ends words i (Ok item) h = (omega arith, omega arith)
-double-ends words i (Err offset) h = tt
+double_ends : (words i : ℕ) (o : Result Item ℕ) → i + 1 < words → Ends words i (of_double i o)
+double_ends words i (Ok item) h = (omega arith, omega arith)
+double_ends words i (Err offset) h = tt
 
 item_ends : (bytes : List ℕ) (i : ℕ) → i < length bytes / 4 → Ends (length bytes / 4) i (item_at bytes i)
 item_ends bytes i h =
     either_way (length bytes / 4) i (starts (kind (word bytes i))) _ _
-    (λ e. either_way (length bytes / 4) i (ltb (i + 1) (length bytes / 4)) _ _ (λ t. double-ends (length bytes / 4) i _ (ltb-true _ _ t)) tt)
-    (single-ends (length bytes / 4) i _ h)
+    (λ e. either_way (length bytes / 4) i (ltb (i + 1) (length bytes / 4)) _ _ (λ t. double_ends (length bytes / 4) i _ (ltb-true _ _ t)) tt)
+    (single_ends (length bytes / 4) i _ h)
 
 -- ---- one turn of the reader
 

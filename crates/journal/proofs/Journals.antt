@@ -11,37 +11,37 @@ use Rattle.ledger.specs.Limits.{Within, admitted, farthest_balance, is_zero}
 use Rattle.ledger.specs.Meaning.{Meaning}
 use Rattle.ledger.specs.Payments.{Raised, due, due_of}
 use Rattle.ledger.specs.Totals.{if_within}
-use Rattle.ledger.proofs.Paid.{due-here, due-one, due-other, zero_is}
+use Rattle.ledger.proofs.Paid.{due_here, due_one, due_other, zero_is}
 use Rattle.ledger.proofs.Totals.{if_inside, if_told, none_some}
 use Rattle.journal.specs.Lines.{line_at, lines_in, lines_of, part, written}
 use Rattle.journal.specs.Meaning.{Notes, from_to, journal, journal_total, spans}
-use Rattle.journal.proofs.Lines.{length-written, lines_more, lines_none, lines-written, past-written}
+use Rattle.journal.proofs.Lines.{length_written, lines_more, lines_none, lines_written, past_written}
 
 -- ---- totals
 
 module _ (ws : List ℕ) (n f l a : ℕ) where
-  pub total-out : spans f l a ≡ false → journal_total ws n f l a ≡ None
+  pub total_out : spans f l a ≡ false → journal_total ws n f l a ≡ None
   unfolding journal_total
-  total-out h = simp h
+  total_out h = simp h
 
-  pub total-in : spans f l a ≡ true → journal_total ws n f l a ≡ if_within (due (lines_of ws n) a)
+  pub total_in : spans f l a ≡ true → journal_total ws n f l a ≡ if_within (due (lines_of ws n) a)
   unfolding journal_total
-  total-in h = simp h
+  total_in h = simp h
 
-  pub total-told : (b : ℤ) → journal_total ws n f l a ≡ Some b → (spans f l a ≡ true) × (b ≡ due (lines_of ws n) a) × Within b
+  pub total_told : (b : ℤ) → journal_total ws n f l a ≡ Some b → (spans f l a ≡ true) × (b ≡ due (lines_of ws n) a) × Within b
   unfolding journal_total
-  total-told b e = elim (cases_Bool (spans f l a)) [
+  total_told b e = elim (cases_Bool (spans f l a)) [
     | inl t ↦ (let r = if_told (due (lines_of ws n) a) b (simp t at e) in (t, r.0, r.1))
     | inr t ↦ none_some b (simp t at e)
   ]
 
-pub spans-small : (f l a : ℕ) → spans f l a ≡ true → a < part
-spans-small f l a e = let p = (and_parts (admitted a) (leb f a) (and_parts (admitted a && leb f a) (leb a l) e).0).0 in grind (arith, nat_tests)
+pub spans_small : (f l a : ℕ) → spans f l a ≡ true → a < part
+spans_small f l a e = let p = (and_parts (admitted a) (leb f a) (and_parts (admitted a && leb f a) (leb a l) e).0).0 in grind (arith, nat_tests)
 
 -- ---- the sum of the lines
 
 pub sum_more : (ws : List ℕ) (k a : ℕ) → due (lines_in ws (k + 1)) a ≡ due (lines_in ws k) a +ℤ due_of (line_at ws k) a
-sum_more ws k a = ap (λ q. due q a) (lines_more ws k) ∙ due-one (lines_in ws k) (line_at ws k) a
+sum_more ws k a = ap (λ q. due q a) (lines_more ws k) ∙ due_one (lines_in ws k) (line_at ws k) a
 
 fits_128 : (z : ℤ) (k : ℕ) → nat_abs z ≤ k * 9223372036854775808 → k < 4611686018427387905 → SFits w128 z
 fits_128 z k h l = omega (arith, ints)
@@ -50,8 +50,8 @@ size_64 : (x : ℤ) → SFits w64 x → nat_abs x ≤ 9223372036854775808
 size_64 x f = omega (arith, ints, f.sfits)
 
 -- one turn of the loop that sums
-pub sum-128 : (t s x : ℤ) (i : ℕ) → t ≡ s → SFits w64 x → nat_abs s ≤ i * 9223372036854775808 → i < 4611686018427387904 → (to_z w128 (of_z w128 (t +ℤ to_z w128 (of_z w128 (to_z w64 (of_z w64 x))))) ≡ s +ℤ x) × (nat_abs (s +ℤ x) ≤ (i + 1) * 9223372036854775808)
-sum-128 t s x i e f h l =
+pub sum_128 : (t s x : ℤ) (i : ℕ) → t ≡ s → SFits w64 x → nat_abs s ≤ i * 9223372036854775808 → i < 4611686018427387904 → (to_z w128 (of_z w128 (t +ℤ to_z w128 (of_z w128 (to_z w64 (of_z w64 x))))) ≡ s +ℤ x) × (nat_abs (s +ℤ x) ≤ (i + 1) * 9223372036854775808)
+sum_128 t s x i e f h l =
     let m = size_64 x f in
     let b : nat_abs (s +ℤ x) ≤ (i + 1) * 9223372036854775808 = omega (arith, ints) in
     let g : SFits w128 x = fits_128 x 1 (omega arith) (omega arith) in
@@ -67,54 +67,54 @@ sum-128 t s x i e f h l =
 
 module _ (ws : List ℕ) (n f l : ℕ) (p : Payment) (b : ℤ) (room : n < length ws / 4) (fits : SFits w64 p.amount) (known : journal_total ws n f l p.account ≡ Some b) (new : Within (b +ℤ p.amount)) where
   told : (spans f l p.account ≡ true) × (b ≡ due (lines_of ws n) p.account) × Within b
-  told = total-told ws n f l p.account b known
+  told = total_told ws n f l p.account b known
 
   reach : length (written ws n p) / 4 ≡ length ws / 4
-  reach = ap (λ k. k / 4) (length-written ws n p)
+  reach = ap (λ k. k / 4) (length_written ws n p)
 
   pub lines_after : lines_of (written ws n p) (n + 1) ≡ lines_of ws n ++ (p ∷ [])
   lines_after =
       let r = reach in
       let old : min n (length ws / 4) ≡ n = omega arith in
       let now : min (n + 1) (length (written ws n p) / 4) ≡ n + 1 = omega arith in
-      ap (lines_in (written ws n p)) now ∙ lines-written ws n p room (spans-small f l p.account told.0) fits ∙ ap (λ k. lines_in ws k ++ (p ∷ [])) (sym old)
+      ap (lines_in (written ws n p)) now ∙ lines_written ws n p room (spans_small f l p.account told.0) fits ∙ ap (λ k. lines_in ws k ++ (p ∷ [])) (sym old)
 
   total_here : journal_total (written ws n p) (n + 1) f l p.account ≡ Some (b +ℤ p.amount)
   total_here =
       let e : due (lines_of (written ws n p) (n + 1)) p.account ≡ b +ℤ p.amount =
-      ap (λ q. due q p.account) lines_after ∙ due-here (lines_of ws n) p p.account refl ∙ ap (λ z. z +ℤ p.amount) (sym told.1) in
-      total-in (written ws n p) (n + 1) f l p.account told.0 ∙ ap if_within e ∙ if_inside (b +ℤ p.amount) new
+      ap (λ q. due q p.account) lines_after ∙ due_here (lines_of ws n) p p.account refl ∙ ap (λ z. z +ℤ p.amount) (sym told.1) in
+      total_in (written ws n p) (n + 1) f l p.account told.0 ∙ ap if_within e ∙ if_inside (b +ℤ p.amount) new
 
-  total-there : (d : ℕ) → (d ≡ p.account → ⊥) → journal_total (written ws n p) (n + 1) f l d ≡ journal_total ws n f l d
+  total_there : (d : ℕ) → (d ≡ p.account → ⊥) → journal_total (written ws n p) (n + 1) f l d ≡ journal_total ws n f l d
   unfolding journal_total
-  total-there d ne = ap (λ z. cond (spans f l d) (if_within z) None) (ap (λ q. due q d) lines_after ∙ due-other (lines_of ws n) p d (λ e. ne (sym e)))
+  total_there d ne = ap (λ z. cond (spans f l d) (if_within z) None) (ap (λ q. due q d) lines_after ∙ due_other (lines_of ws n) p d (λ e. ne (sym e)))
 
-  pub journal-raised : Raised (journal ws n f l) p.account p.amount (journal (written ws n p) (n + 1) f l)
-  journal-raised =
+  pub journal_raised : Raised (journal ws n f l) p.account p.amount (journal (written ws n p) (n + 1) f l)
+  journal_raised =
       let a = p.account in
       let r = reach in
       record {
         known = λ d. elim (cases_eq d a) [
           | inl q ↦ ap is_some (ap (journal_total (written ws n p) (n + 1) f l) q ∙ total_here) ∙ sym (ap is_some (ap (journal_total ws n f l) q ∙ known))
-          | inr q ↦ ap is_some (total-there d q)
+          | inr q ↦ ap is_some (total_there d q)
         ];
         here = ap (λ o. unwrap_or o (pos 0)) total_here ∙ ap (λ o. unwrap_or o (pos 0) +ℤ p.amount) (sym known);
-        others = λ d q. ap (λ o. unwrap_or o (pos 0)) (total-there d q);
+        others = λ d q. ap (λ o. unwrap_or o (pos 0)) (total_there d q);
         capacity = inr (omega arith);
         lowest = refl;
         highest = refl;
       }
 
-  pub journal-notes : Notes ws n (p ∷ []) (written ws n p) (n + 1)
-  journal-notes = record { words = refl; count = refl; lines = lines_after; past = past-written ws n p }
+  pub journal_notes : Notes ws n (p ∷ []) (written ws n p) (n + 1)
+  journal_notes = record { words = refl; count = refl; lines = lines_after; past = past_written ws n p }
 
 -- the same, of an append
-pub journal-paid : (ws : List ℕ) (n f l a : ℕ) (x b : ℤ) → n < length ws / 4 → SFits w64 x → journal_total ws n f l a ≡ Some b → Within (b +ℤ x) → (vs : List ℕ) (k f' l' : ℕ) → vs ≡ written ws n (record { account = a; amount = to_z w64 (of_z w64 x) }) → k ≡ n + 1 → f' ≡ f → l' ≡ l → Raised (journal ws n f l) a x (journal vs k f' l') × Notes ws n (record { account = a; amount = x } ∷ []) vs k
-journal-paid ws n f l a x b room fits known new vs k f' l' ew ek ef el =
+pub journal_paid : (ws : List ℕ) (n f l a : ℕ) (x b : ℤ) → n < length ws / 4 → SFits w64 x → journal_total ws n f l a ≡ Some b → Within (b +ℤ x) → (vs : List ℕ) (k f' l' : ℕ) → vs ≡ written ws n (record { account = a; amount = to_z w64 (of_z w64 x) }) → k ≡ n + 1 → f' ≡ f → l' ≡ l → Raised (journal ws n f l) a x (journal vs k f' l') × Notes ws n (record { account = a; amount = x } ∷ []) vs k
+journal_paid ws n f l a x b room fits known new vs k f' l' ew ek ef el =
     let p : Payment = record { account = a; amount = x } in
     let line : ℤ → Payment = λ z. record { account = a; amount = z } in
     let e : vs ≡ written ws n p = ew ∙ ap (λ z. written ws n (line z)) (to_z-of_z w64 x fits) in
-    rw (e, ek, ef, el) (journal-raised ws n f l p b room fits known new, journal-notes ws n f l p b room fits known new)
+    rw (e, ek, ef, el) (journal_raised ws n f l p b room fits known new, journal_notes ws n f l p b room fits known new)
 
 -- nothing written
 pub no_notes : (ws : List ℕ) (n : ℕ) → Notes ws n [] ws n
@@ -127,15 +127,15 @@ unraised m a x z =
 
 -- ---- a new journal
 
-new-total : (ws : List ℕ) (f l a : ℕ) → journal_total ws 0 f l a ≡ cond (spans f l a) (Some (pos 0)) None
+new_total : (ws : List ℕ) (f l a : ℕ) → journal_total ws 0 f l a ≡ cond (spans f l a) (Some (pos 0)) None
 unfolding journal_total
-new-total ws f l a =
+new_total ws f l a =
     let none : min 0 (length ws / 4) ≡ 0 = omega arith in
     ap (λ z. cond (spans f l a) (if_within z) None) (ap (λ q. due q a) (ap (lines_in ws) none ∙ lines_none ws))
     ∙ ap (λ o. cond (spans f l a) o None) (if_inside (pos 0) (omega arith))
 
-pub new-lines : (ws : List ℕ) → lines_of ws 0 ≡ []
-new-lines ws = let none : min 0 (length ws / 4) ≡ 0 = omega arith in ap (lines_in ws) none ∙ lines_none ws
+pub new_lines : (ws : List ℕ) → lines_of ws 0 ≡ []
+new_lines ws = let none : min 0 (length ws / 4) ≡ 0 = omega arith in ap (lines_in ws) none ∙ lines_none ws
 
 some_cond : (t : Bool) (z : ℤ) → is_some (cond t (Some z) None) ≡ t
 some_cond true z = refl
@@ -145,31 +145,31 @@ zero_cond : (t : Bool) → unwrap_or (cond t (Some (pos 0)) None) (pos 0) ≡ po
 zero_cond true = refl
 zero_cond false = refl
 
-pub new-known : (ws : List ℕ) (f l a : ℕ) → is_some (journal_total ws 0 f l a) ≡ spans f l a
-new-known ws f l a = ap is_some (new-total ws f l a) ∙ some_cond (spans f l a) (pos 0)
+pub new_known : (ws : List ℕ) (f l a : ℕ) → is_some (journal_total ws 0 f l a) ≡ spans f l a
+new_known ws f l a = ap is_some (new_total ws f l a) ∙ some_cond (spans f l a) (pos 0)
 
-pub new-balance : (ws : List ℕ) (f l a : ℕ) → unwrap_or (journal_total ws 0 f l a) (pos 0) ≡ pos 0
-new-balance ws f l a = ap (λ o. unwrap_or o (pos 0)) (new-total ws f l a) ∙ zero_cond (spans f l a)
+pub new_balance : (ws : List ℕ) (f l a : ℕ) → unwrap_or (journal_total ws 0 f l a) (pos 0) ≡ pos 0
+new_balance ws f l a = ap (λ o. unwrap_or o (pos 0)) (new_total ws f l a) ∙ zero_cond (spans f l a)
 
 pub spans_all : (f l a : ℕ) → (admitted f && admitted l) ≡ true → spans f l a ≡ from_to f l a
 spans_all f l a e = grind (arith, nat_tests)
 
-pub spans-none : (f l a : ℕ) → (admitted f && admitted l) ≡ false → spans 1 0 a ≡ from_to f l a
-spans-none f l a e = grind (arith, nat_tests)
+pub spans_none : (f l a : ℕ) → (admitted f && admitted l) ≡ false → spans 1 0 a ≡ from_to f l a
+spans_none f l a e = grind (arith, nat_tests)
 
 -- ---- tests as the code makes them
 
-pub spans-shown : (f l a : ℕ) (t v : Bool) → t ≡ admitted a → ((t && leb f a) && leb a l) ≡ v → spans f l a ≡ v
-spans-shown f l a t v e h = ap (λ b. (b && leb f a) && leb a l) (sym e) ∙ h
+pub spans_shown : (f l a : ℕ) (t v : Bool) → t ≡ admitted a → ((t && leb f a) && leb a l) ≡ v → spans f l a ≡ v
+spans_shown f l a t v e h = ap (λ b. (b && leb f a) && leb a l) (sym e) ∙ h
 
-pub below-limit : (z : ℤ) → lt_z z (negsuc 8999999999999999999) ≡ true → farthest_balance < nat_abs z
-below-limit z h = grind (arith, ints)
+pub below_limit : (z : ℤ) → lt_z z (negsuc 8999999999999999999) ≡ true → farthest_balance < nat_abs z
+below_limit z h = grind (arith, ints)
 
-pub above-limit : (z : ℤ) → lt_z (pos 9000000000000000000) z ≡ true → farthest_balance < nat_abs z
-above-limit z h = grind (arith, ints)
+pub above_limit : (z : ℤ) → lt_z (pos 9000000000000000000) z ≡ true → farthest_balance < nat_abs z
+above_limit z h = grind (arith, ints)
 
-pub inside-limits : (z : ℤ) → lt_z z (negsuc 8999999999999999999) ≡ false → lt_z (pos 9000000000000000000) z ≡ false → Within z
-inside-limits z l h = grind (arith, ints)
+pub inside_limits : (z : ℤ) → lt_z z (negsuc 8999999999999999999) ≡ false → lt_z (pos 9000000000000000000) z ≡ false → Within z
+inside_limits z l h = grind (arith, ints)
 
 pub both_shown : (f l : ℕ) (t u v : Bool) → t ≡ admitted f → u ≡ admitted l → (t && u) ≡ v → (admitted f && admitted l) ≡ v
 both_shown f l t u v et eu h = ap (λ b. b && admitted l) (sym et) ∙ ap (λ b. t && b) (sym eu) ∙ h

@@ -51,13 +51,13 @@ joined u h =
 -- ---- the lines before and at a line that is written
 
 module _ (ws : List ℕ) (n : ℕ) (p : Payment) where
-  pub length-written : length (written ws n p) ≡ length ws
+  pub length_written : length (written ws n p) ≡ length ws
   unfolding written
-  length-written = simp length-set
+  length_written = simp length-set
 
-  get_or-before : (i : ℕ) → i < 4 * n → get_or (written ws n p) i 0 ≡ get_or ws i 0
+  get_or_before : (i : ℕ) → i < 4 * n → get_or (written ws n p) i 0 ≡ get_or ws i 0
   unfolding written
-  get_or-before i h =
+  get_or_before i h =
       let a : i ≢ 4 * n = λ e. omega arith in
       let b : i ≢ 4 * n + 1 = λ e. omega arith in
       let c : i ≢ 4 * n + 2 = λ e. omega arith in
@@ -67,21 +67,21 @@ module _ (ws : List ℕ) (n : ℕ) (p : Payment) where
   line_before : (k : ℕ) → k < n → line_at (written ws n p) k ≡ line_at ws k
   unfolding line_at
   line_before k h =
-      let a = get_or-before (4 * k) (omega arith) in
-      let b = get_or-before (4 * k + 1) (omega arith) in
-      let c = get_or-before (4 * k + 2) (omega arith) in
-      let d = get_or-before (4 * k + 3) (omega arith) in
+      let a = get_or_before (4 * k) (omega arith) in
+      let b = get_or_before (4 * k + 1) (omega arith) in
+      let c = get_or_before (4 * k + 2) (omega arith) in
+      let d = get_or_before (4 * k + 3) (omega arith) in
       simp (a, b, c, d)
 
-  lines-before : (k : ℕ) → k ≤ n → lines_in (written ws n p) k ≡ lines_in ws k
+  lines_before : (k : ℕ) → k ≤ n → lines_in (written ws n p) k ≡ lines_in ws k
   unfolding lines_in
-  lines-before zero h = refl
-  lines-before (suc k) h =
-      ap (λ q. q ++ (line_at (written ws n p) k ∷ [])) (lines-before k (omega arith)) ∙ ap (λ l. lines_in ws k ++ (l ∷ [])) (line_before k (omega arith))
+  lines_before zero h = refl
+  lines_before (suc k) h =
+      ap (λ q. q ++ (line_at (written ws n p) k ∷ [])) (lines_before k (omega arith)) ∙ ap (λ l. lines_in ws k ++ (l ∷ [])) (line_before k (omega arith))
 
-  pub past-written : drop (4 * (n + 1)) (written ws n p) ≡ drop (4 * (n + 1)) ws
+  pub past_written : drop (4 * (n + 1)) (written ws n p) ≡ drop (4 * (n + 1)) ws
   unfolding written
-  past-written =
+  past_written =
       let a : 4 * n < 4 * (n + 1) = omega arith in
       let b : 4 * n + 1 < 4 * (n + 1) = omega arith in
       let c : 4 * n + 2 < 4 * (n + 1) = omega arith in
@@ -114,11 +114,11 @@ module _ (ws : List ℕ) (n : ℕ) (p : Payment) where
         let line : ℕ → ℤ → Payment = λ a x. record { account = a; amount = x } in
         ap (λ a. line a (line_at (written ws n p) n).amount) account_here ∙ ap (line p.account) (ap (to_z w64) bits_here ∙ to_z-of_z w64 p.amount fits)
 
-    pub lines-written : lines_in (written ws n p) (n + 1) ≡ lines_in ws n ++ (p ∷ [])
+    pub lines_written : lines_in (written ws n p) (n + 1) ≡ lines_in ws n ++ (p ∷ [])
     unfolding lines_in
-    lines-written =
+    lines_written =
         ap (lines_in (written ws n p)) (add-one n)
-        ∙ ap (λ q. q ++ (line_at (written ws n p) n ∷ [])) (lines-before n (omega arith))
+        ∙ ap (λ q. q ++ (line_at (written ws n p) n ∷ [])) (lines_before n (omega arith))
         ∙ ap (λ l. lines_in ws n ++ (l ∷ [])) line_here
 
 -- ---- lines by number
@@ -140,10 +140,10 @@ nth_last : {A : Type 0} (xs : List A) (x : A) → slice_get (xs ++ (x ∷ [])) (
 nth_last [] x = refl
 nth_last (y ∷ xs) x = nth_last xs x
 
-nth-front : {A : Type 0} (xs ys : List A) (i : ℕ) → i < length xs → slice_get (xs ++ ys) i ≡ slice_get xs i
-nth-front [] ys i h = absurd (omega arith)
-nth-front (x ∷ xs) ys zero h = refl
-nth-front (x ∷ xs) ys (suc i) h = nth-front xs ys i (omega arith)
+nth_front : {A : Type 0} (xs ys : List A) (i : ℕ) → i < length xs → slice_get (xs ++ ys) i ≡ slice_get xs i
+nth_front [] ys i h = absurd (omega arith)
+nth_front (x ∷ xs) ys zero h = refl
+nth_front (x ∷ xs) ys (suc i) h = nth_front xs ys i (omega arith)
 
 pub no_line : (ws : List ℕ) (k i : ℕ) → k ≤ i → slice_get (lines_in ws k) i ≡ None
 no_line ws k i h = slice_get_past (lines_in ws k) i (rw (length-lines ws k) h)
@@ -155,6 +155,6 @@ pub line_number : (ws : List ℕ) (k i : ℕ) → i < k → slice_get (lines_in 
 unfolding lines_in
 line_number ws zero i h = absurd (omega arith)
 line_number ws (suc k) i h = elim (i_or i k h) [
-  | inl l ↦ nth-front (lines_in ws k) (line_at ws k ∷ []) i (rw (length-lines ws k) l) ∙ line_number ws k i l
+  | inl l ↦ nth_front (lines_in ws k) (line_at ws k ∷ []) i (rw (length-lines ws k) l) ∙ line_number ws k i l
   | inr e ↦ ap (slice_get (lines_in ws k ++ (line_at ws k ∷ []))) (e ∙ sym (length-lines ws k)) ∙ nth_last (lines_in ws k) (line_at ws k) ∙ ap (λ j. Some (line_at ws j)) (sym e)
 ]

@@ -55,19 +55,19 @@ module _ {A : Type 0} (f : A → Check) (xs : List A) (i : ℕ) (d : A) (h : i <
       ∙ ap first_fault (map-++ f (take i xs) (get_or xs i d ∷ []))
       ∙ passes_then (map f (take i xs)) (f (get_or xs i d)) [] before p
 
-  pub map-fails : (f (get_or xs i d)).passes ≡ false → first_fault (map f xs) ≡ Some (f (get_or xs i d)).fault
-  map-fails p =
+  pub map_fails : (f (get_or xs i d)).passes ≡ false → first_fault (map f xs) ≡ Some (f (get_or xs i d)).fault
+  map_fails p =
       ap (λ q. first_fault (map f q)) (cut xs i d h)
       ∙ ap first_fault (map-++ f (take i xs) (get_or xs i d ∷ drop (i + 1) xs))
       ∙ fails_then (map f (take i xs)) (f (get_or xs i d)) (map f (drop (i + 1) xs)) before p
 
-pub verdict-ok : {X : Type 0} (x y : X) (o : Option Fault) → Ok x ≡ verdict y o → o ≡ None
-verdict-ok x y None e = refl
-verdict-ok x y (Some f) e = let z : ◌≡◌ {A = ℕ} 0 1 = cc in absurd (omega arith)
+pub verdict_ok : {X : Type 0} (x y : X) (o : Option Fault) → Ok x ≡ verdict y o → o ≡ None
+verdict_ok x y None e = refl
+verdict_ok x y (Some f) e = let z : ◌≡◌ {A = ℕ} 0 1 = cc in absurd (omega arith)
 
-pub verdict-err : {X : Type 0} (f : Fault) (y : X) (o : Option Fault) → Err f ≡ verdict y o → o ≡ Some f
-verdict-err f y None e = let z : ◌≡◌ {A = ℕ} 0 1 = cc in absurd (omega arith)
-verdict-err f y (Some g) e = cc
+pub verdict_err : {X : Type 0} (f : Fault) (y : X) (o : Option Fault) → Err f ≡ verdict y o → o ≡ Some f
+verdict_err f y None e = let z : ◌≡◌ {A = ℕ} 0 1 = cc in absurd (omega arith)
+verdict_err f y (Some g) e = cc
 
 -- refused and not refused at once
 pub clash : {X : Type 0} (o : Option Fault) (f : Fault) → o ≡ None → o ≡ Some f → X

@@ -19,8 +19,8 @@ back_within z h = to_z-of_z w64 z (fits_within z h)
 pub sum_back : (b x : ℤ) → SFits w64 b → SFits w64 x → Within (b +ℤ x) → SFits w64 (back b +ℤ back x) × (back (back b +ℤ back x) ≡ b +ℤ x)
 sum_back b x f g h = let s = fits_within (b +ℤ x) h in (simp to_z-of_z s, simp to_z-of_z)
 
-pub reaches-back : (l h b x : ℤ) → SFits w64 l → SFits w64 h → SFits w64 b → SFits w64 x → reaches (back l) (back h) (back b) (back x) ≡ reaches l h b x
-reaches-back l h b x f g i j = simp to_z-of_z
+pub reaches_back : (l h b x : ℤ) → SFits w64 l → SFits w64 h → SFits w64 b → SFits w64 x → reaches (back l) (back h) (back b) (back x) ≡ reaches l h b x
+reaches_back l h b x f g i j = simp to_z-of_z
 
 -- what a payment in range shows
 pub record Reached (l h b x : ℤ) : Type 0 where
@@ -51,18 +51,18 @@ reach l h b x r =
     let t = le_to (b +ℤ x) h r.below in
     simp (p, q, t)
 
-pub reached-within : (l h b x : ℤ) → Within l → Within h → reaches l h b x ≡ true → Within (b +ℤ x)
-reached-within l h b x f g e = let r = reached l h b x e in let lo = r.above in let hi = r.below in omega (arith, ints)
+pub reached_within : (l h b x : ℤ) → Within l → Within h → reaches l h b x ≡ true → Within (b +ℤ x)
+reached_within l h b x f g e = let r = reached l h b x e in let lo = r.above in let hi = r.below in omega (arith, ints)
 
 pub zero_amount : (x : ℤ) → SFits w64 x → of_z w64 x ≡ 0 → x ≡ pos 0
 zero_amount x f e = sym (to_z-of_z w64 x f) ∙ ap (to_z w64) e
 
 -- a sum t of b and d goes on by x
-pub sum-shown : (t b d e x : ℤ) → t ≡ b +ℤ d → e ≡ d +ℤ x → SFits w64 x → Within (b +ℤ e) → SFits w64 (t +ℤ back x) × (back (t +ℤ back x) ≡ b +ℤ e)
-sum-shown t b d e x p q f w =
+pub sum_shown : (t b d e x : ℤ) → t ≡ b +ℤ d → e ≡ d +ℤ x → SFits w64 x → Within (b +ℤ e) → SFits w64 (t +ℤ back x) × (back (t +ℤ back x) ≡ b +ℤ e)
+sum_shown t b d e x p q f w =
     let is : t +ℤ back x ≡ b +ℤ e = ap (λ z. t +ℤ z) (to_z-of_z w64 x f) ∙ omega (arith, ints) in
     let s = fits_within (b +ℤ e) w in
     (rw is s, ap back is ∙ to_z-of_z w64 (b +ℤ e) s)
 
-pub reaches-amount : (l h b x : ℤ) → SFits w64 b → SFits w64 x → reaches l h (back b) (back x) ≡ reaches l h b x
-reaches-amount l h b x f g = simp to_z-of_z
+pub reaches_amount : (l h b x : ℤ) → SFits w64 b → SFits w64 x → reaches l h (back b) (back x) ≡ reaches l h b x
+reaches_amount l h b x f g = simp to_z-of_z

@@ -13,7 +13,7 @@ use Rattle.ledger.specs.Limits.{Within, is_zero, reaches}
 use Rattle.ledger.specs.Meaning.{Meaning}
 use Rattle.ledger.specs.Payments.{Raised, Paid, due, made, known_check, range_check, range_checks, capacity_check, fault_of, fault_of_all}
 use Rattle.ledger.proofs.Checks.{cut, map-++, or_else, first-++, none_both, passed, passes_then, fails_then}
-use Rattle.ledger.proofs.Money.{back, reached-within, reaches-back}
+use Rattle.ledger.proofs.Money.{back, reached_within, reaches_back}
 use Rattle.ledger.proofs.Refused.{not_refused, raised_at}
 
 -- ---- sums and counts
@@ -30,14 +30,14 @@ pub zero_is : (x : ℤ) → is_zero x ≡ true → x ≡ pos 0
 zero_is x e = let h = leb-true (nat_abs x) 0 e in omega (arith, ints)
 
 module _ (ps : List Payment) (p : Payment) where
-  pub due-one : (a : ℕ) → due (ps ++ (p ∷ [])) a ≡ due ps a +ℤ cond (eqb p.account a) p.amount (pos 0)
-  due-one a = due-++ ps (p ∷ []) a ∙ ap (λ z. due ps a +ℤ z) (+ℤ_idr (cond (eqb p.account a) p.amount (pos 0)))
+  pub due_one : (a : ℕ) → due (ps ++ (p ∷ [])) a ≡ due ps a +ℤ cond (eqb p.account a) p.amount (pos 0)
+  due_one a = due-++ ps (p ∷ []) a ∙ ap (λ z. due ps a +ℤ z) (+ℤ_idr (cond (eqb p.account a) p.amount (pos 0)))
 
-  pub due-here : (a : ℕ) → p.account ≡ a → due (ps ++ (p ∷ [])) a ≡ due ps a +ℤ p.amount
-  due-here a e = due-one a ∙ grind (arith, nat_tests)
+  pub due_here : (a : ℕ) → p.account ≡ a → due (ps ++ (p ∷ [])) a ≡ due ps a +ℤ p.amount
+  due_here a e = due_one a ∙ grind (arith, nat_tests)
 
-  pub due-other : (a : ℕ) → (p.account ≡ a → ⊥) → due (ps ++ (p ∷ [])) a ≡ due ps a
-  due-other a ne = due-one a ∙ grind (arith, nat_tests, +ℤ_idr (due ps a))
+  pub due_other : (a : ℕ) → (p.account ≡ a → ⊥) → due (ps ++ (p ∷ [])) a ≡ due ps a
+  due_other a ne = due_one a ∙ grind (arith, nat_tests, +ℤ_idr (due ps a))
 
   pub made_none : is_zero p.amount ≡ true → made (ps ++ (p ∷ [])) ≡ made ps
   made_none z = made-++ ps (p ∷ []) ∙ grind (arith, nat_tests)
@@ -59,7 +59,7 @@ module _ (m : Meaning) (ps : List Payment) (n : Meaning) (paid : Paid m ps n) (p
       let few = paid.few_less in
       record {
         known = paid.known;
-        balance = λ a. paid.balance a ∙ ap (λ q. m.balance a +ℤ q) (sym (due-one ps p a ∙ ap (λ q. due ps a +ℤ cond (eqb p.account a) q (pos 0)) x ∙ grind (arith, nat_tests, +ℤ_idr (due ps a))));
+        balance = λ a. paid.balance a ∙ ap (λ q. m.balance a +ℤ q) (sym (due_one ps p a ∙ ap (λ q. due ps a +ℤ cond (eqb p.account a) q (pos 0)) x ∙ grind (arith, nat_tests, +ℤ_idr (due ps a))));
         no_more = paid.no_more;
         few_less = omega arith;
         lowest = paid.lowest;
@@ -74,7 +74,7 @@ module _ (m : Meaning) (ps : List Payment) (n : Meaning) (paid : Paid m ps n) (p
       let room = r.capacity in
       record {
         known = λ b. r.known b ∙ paid.known b;
-        balance = λ b. (let e = raised_at n p.account p.amount o r b in let d = paid.balance b in let s = due-one ps p b in omega (arith, ints));
+        balance = λ b. (let e = raised_at n p.account p.amount o r b in let d = paid.balance b in let s = due_one ps p b in omega (arith, ints));
         no_more = omega arith;
         few_less = omega arith;
         lowest = r.lowest ∙ paid.lowest;
@@ -92,28 +92,28 @@ module _ (m : Meaning) (ps : List Payment) (n : Meaning) (paid : Paid m ps n) (p
 
 -- ---- checks of a row of payments
 
-pub range_++ : (m : Meaning) (before ps qs : List Payment) → range_checks m before (ps ++ qs) ≡ range_checks m before ps ++ range_checks m (before ++ ps) qs
-range_++ m before [] qs = ap (λ q. range_checks m q qs) (sym (append-nil before))
+pub range-++ : (m : Meaning) (before ps qs : List Payment) → range_checks m before (ps ++ qs) ≡ range_checks m before ps ++ range_checks m (before ++ ps) qs
+range-++ m before [] qs = ap (λ q. range_checks m q qs) (sym (append-nil before))
   where
     append-nil : (xs : List Payment) → xs ++ [] ≡ xs
     append-nil [] = refl
     append-nil (x ∷ xs) = ap (λ q. x ∷ q) (append-nil xs)
-range_++ m before (p ∷ ps) qs =
+range-++ m before (p ∷ ps) qs =
     ap (λ q. range_check m before p ∷ q)
-    (range_++ m (before ++ (p ∷ [])) ps qs ∙ ap (λ q. range_checks m (before ++ (p ∷ [])) ps ++ range_checks m q qs) (append_assoc before (p ∷ []) ps))
+    (range-++ m (before ++ (p ∷ [])) ps qs ∙ ap (λ q. range_checks m (before ++ (p ∷ [])) ps ++ range_checks m q qs) (append_assoc before (p ∷ []) ps))
 
 -- one turn of the loop that checks each range
 module _ (m : Meaning) (ps : List Payment) (i : ℕ) (d : Payment) (h : i < length ps) (before : first_fault (range_checks m [] (take i ps)) ≡ None) where
   pub range_more : (range_check m (take i ps) (get_or ps i d)).passes ≡ true → first_fault (range_checks m [] (take (i + 1) ps)) ≡ None
   range_more p =
       ap (λ q. first_fault (range_checks m [] q)) (take_more ps i d h)
-      ∙ ap first_fault (range_++ m [] (take i ps) (get_or ps i d ∷ []))
+      ∙ ap first_fault (range-++ m [] (take i ps) (get_or ps i d ∷ []))
       ∙ passes_then (range_checks m [] (take i ps)) (range_check m (take i ps) (get_or ps i d)) [] before p
 
   pub range_fails : (range_check m (take i ps) (get_or ps i d)).passes ≡ false → first_fault (range_checks m [] ps) ≡ Some (range_check m (take i ps) (get_or ps i d)).fault
   range_fails p =
       ap (λ q. first_fault (range_checks m [] q)) (cut ps i d h)
-      ∙ ap first_fault (range_++ m [] (take i ps) (get_or ps i d ∷ drop (i + 1) ps))
+      ∙ ap first_fault (range-++ m [] (take i ps) (get_or ps i d ∷ drop (i + 1) ps))
       ∙ fails_then (range_checks m [] (take i ps)) (range_check m (take i ps) (get_or ps i d)) (range_checks m (take i ps ++ (get_or ps i d ∷ [])) (drop (i + 1) ps)) before p
 
 -- a balance stays within the limits while each payment is in range
@@ -122,7 +122,7 @@ module _ (m : Meaning) (a : ℕ) (low : Within m.lowest) (high : Within m.highes
   one_within before p e h = by (eqb p.account a) refl (is_zero p.amount) refl
     where
       kept : cond (eqb p.account a) p.amount (pos 0) ≡ pos 0 → Within (m.balance a +ℤ due (before ++ (p ∷ [])) a)
-      kept z = subst (λ q. Within (m.balance a +ℤ q)) (sym (due-one before p a ∙ ap (λ q. due before a +ℤ q) z ∙ +ℤ_idr (due before a))) h
+      kept z = subst (λ q. Within (m.balance a +ℤ q)) (sym (due_one before p a ∙ ap (λ q. due before a +ℤ q) z ∙ +ℤ_idr (due before a))) h
 
       by : (s : Bool) → eqb p.account a ≡ s → (t : Bool) → is_zero p.amount ≡ t → Within (m.balance a +ℤ due (before ++ (p ∷ [])) a)
       by false s t f = kept (rw s)
@@ -130,9 +130,9 @@ module _ (m : Meaning) (a : ℕ) (low : Within m.lowest) (high : Within m.highes
       by true s false f =
           let is = eqb-true p.account a s in
           let g : reaches m.lowest m.highest (m.balance p.account +ℤ due before p.account) p.amount ≡ true = rw f at e in
-          let w = reached-within _ _ _ _ low high g in
+          let w = reached_within _ _ _ _ low high g in
           let v : Within ((m.balance a +ℤ due before a) +ℤ p.amount) = subst (λ c. Within ((m.balance c +ℤ due before c) +ℤ p.amount)) is w in
-          let d = due-here before p a is in
+          let d = due_here before p a is in
           omega (arith, ints)
 
   running_within : (before ps : List Payment) → first_fault (range_checks m before ps) ≡ None → Within (m.balance a +ℤ due before a) → Within (m.balance a +ℤ due (before ++ ps) a)
@@ -147,10 +147,10 @@ module _ (m : Meaning) (a : ℕ) (low : Within m.lowest) (high : Within m.highes
       subst (λ q. Within (m.balance a +ℤ due q a)) (append_assoc before (p ∷ []) ps) (running_within (before ++ (p ∷ [])) ps rest (one_within before p t h))
 
   -- after the first i of them
-  pub within-at : (ps : List Payment) (i : ℕ) → first_fault (range_checks m [] ps) ≡ None → Within (m.balance a) → Within (m.balance a +ℤ due (take i ps) a)
-  within-at ps i e h =
+  pub within_at : (ps : List Payment) (i : ℕ) → first_fault (range_checks m [] ps) ≡ None → Within (m.balance a) → Within (m.balance a +ℤ due (take i ps) a)
+  within_at ps i e h =
       let parts = ap (λ q. first_fault (range_checks m [] q)) (take-append-drop i ps) ∙ e in
-      let split = ap first_fault (range_++ m [] (take i ps) (drop i ps)) ∙ first-++ (range_checks m [] (take i ps)) (range_checks m (take i ps) (drop i ps)) in
+      let split = ap first_fault (range-++ m [] (take i ps) (drop i ps)) ∙ first-++ (range_checks m [] (take i ps)) (range_checks m (take i ps) (drop i ps)) in
       let front = (none_both _ _ (sym split ∙ parts)).0 in
       running_within [] (take i ps) front (subst Within (sym (+ℤ_idr (m.balance a))) h)
 
@@ -162,8 +162,8 @@ module _ (m : Meaning) (ps : List Payment) where
       first-++ (map (known_check m) ps) (range_checks m [] ps ++ (capacity_check m ps ∷ []))
       ∙ ap (or_else (first_fault (map (known_check m) ps))) (first-++ (range_checks m [] ps) (capacity_check m ps ∷ []))
 
-  pub unknown-among : (f : Fault) → first_fault (map (known_check m) ps) ≡ Some f → fault_of_all m ps ≡ Some f
-  unknown-among f k = kinds ∙ rw k
+  pub unknown_among : (f : Fault) → first_fault (map (known_check m) ps) ≡ Some f → fault_of_all m ps ≡ Some f
+  unknown_among f k = kinds ∙ rw k
 
   module _ (k : first_fault (map (known_check m) ps) ≡ None) where
     pub range_among : (f : Fault) → first_fault (range_checks m [] ps) ≡ Some f → fault_of_all m ps ≡ Some f
@@ -194,7 +194,7 @@ module _ (m : Meaning) (ps : List Payment) where
           let first = none_both _ _ (sym kinds ∙ ok) in
           let second = none_both _ _ first.1 in
           let k = passed (map (known_check m) before) (known_check m p) (map (known_check m) after) (ap first_fault (sym (ap (map (known_check m)) e ∙ map-++ (known_check m) before (p ∷ after))) ∙ first.0) in
-          let r = passed (range_checks m [] before) (range_check m before p) (range_checks m (before ++ (p ∷ [])) after) (ap first_fault (sym (ap (range_checks m []) e ∙ range_++ m [] before (p ∷ after))) ∙ second.0) in
+          let r = passed (range_checks m [] before) (range_check m before p) (range_checks m (before ++ (p ∷ [])) after) (ap first_fault (sym (ap (range_checks m []) e ∙ range-++ m [] before (p ∷ after))) ∙ second.0) in
           let k' : m.known p.account ≡ true = rw z at k in
           let r' : reaches m.lowest m.highest (m.balance p.account +ℤ due before p.account) p.amount ≡ true = rw z at r in
           let room = leb-true (made ps) m.capacity (passed [] (capacity_check m ps) [] second.1) in
@@ -205,9 +205,9 @@ module _ (m : Meaning) (ps : List Payment) where
 -- the test of a range, as the code makes it
 pub range_shown : (m : Meaning) (before : List Payment) (p : Payment) (l h b : ℤ) (z r : Bool) → SFits w64 l → SFits w64 h → SFits w64 b → SFits w64 p.amount → l ≡ m.lowest → h ≡ m.highest → b ≡ m.balance p.account +ℤ due before p.account → z ≡ is_zero p.amount → r ≡ reaches (back l) (back h) (back b) (back p.amount) → (z || r) ≡ (range_check m before p).passes
 range_shown m before p l h b z r fl fh fb fx el eh eb ez er =
-    let is : r ≡ reaches m.lowest m.highest (m.balance p.account +ℤ due before p.account) p.amount = er ∙ reaches-back l h b p.amount fl fh fb fx ∙ rw (el, eh, eb) in
+    let is : r ≡ reaches m.lowest m.highest (m.balance p.account +ℤ due before p.account) p.amount = er ∙ reaches_back l h b p.amount fl fh fb fx ∙ rw (el, eh, eb) in
     ap (λ t. t || r) ez ∙ ap (λ t. is_zero p.amount || t) is
 
 -- the test of an account, as the code makes it
-pub known-shown : (m : Meaning) (p : Payment) (z k : Bool) → z ≡ is_zero p.amount → k ≡ m.known p.account → (z || k) ≡ (known_check m p).passes
-known-shown m p z k ez ek = ap (λ t. t || k) ez ∙ ap (λ t. is_zero p.amount || t) ek
+pub known_shown : (m : Meaning) (p : Payment) (z k : Bool) → z ≡ is_zero p.amount → k ≡ m.known p.account → (z || k) ≡ (known_check m p).passes
+known_shown m p z k ez ek = ap (λ t. t || k) ez ∙ ap (λ t. is_zero p.amount || t) ek

@@ -11,17 +11,17 @@ pub same_self : (m : Meaning) → Same m m
 same_self m = record { known = λ _. refl; balance = λ _. refl; capacity = refl; lowest = refl; highest = refl }
 
 module _ (m : Meaning) (a : ℕ) (x : ℤ) where
-  pub unknown-refused : m.known a ≡ false → fault_of m a x ≡ Some (record { refusal = UnknownAccount; account = a })
+  pub unknown_refused : m.known a ≡ false → fault_of m a x ≡ Some (record { refusal = UnknownAccount; account = a })
   unfolding fault_of
-  unknown-refused k = simp k
+  unknown_refused k = simp k
 
   pub range_refused : m.known a ≡ true → reaches m.lowest m.highest (m.balance a) x ≡ false → fault_of m a x ≡ Some (record { refusal = OutOfRange; account = a })
   unfolding fault_of
   range_refused k e = simp (k, e)
 
-  pub capacity-refused : m.known a ≡ true → reaches m.lowest m.highest (m.balance a) x ≡ true → m.capacity ≡ 0 → fault_of m a x ≡ Some (record { refusal = NoCapacity; account = 0 })
+  pub capacity_refused : m.known a ≡ true → reaches m.lowest m.highest (m.balance a) x ≡ true → m.capacity ≡ 0 → fault_of m a x ≡ Some (record { refusal = NoCapacity; account = 0 })
   unfolding fault_of
-  capacity-refused k e z = let t = lt-leb 1 m.capacity (omega arith) in simp (k, e, t)
+  capacity_refused k e z = let t = lt-leb 1 m.capacity (omega arith) in simp (k, e, t)
 
   pub not_refused : m.known a ≡ true → reaches m.lowest m.highest (m.balance a) x ≡ true → 0 < m.capacity → fault_of m a x ≡ None
   unfolding fault_of

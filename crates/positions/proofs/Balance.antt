@@ -12,34 +12,34 @@ use Rattle.positions.specs.declared.records.Trade.{Trade}
 use Rattle.positions.specs.Positions.{no_position, position, account_of, more, changed, cost_of, traded, busted}
 use Rattle.positions.specs.Trading.{undone}
 use Rattle.positions.specs.Laws.{SameTotals, PositionsBalance}
-use Rattle.positions.proofs.Positions.{both, changed-same, changed-other, there_and_back}
+use Rattle.positions.proofs.Positions.{both, changed_same, changed_other, there_and_back}
 
 -- ---- the record of one account
 
-abbrev more-if : Bool → ℤ → ℤ → Account → Account
-more-if true q v x = more q v x
-more-if false q v x = x
+abbrev more_if : Bool → ℤ → ℤ → Account → Account
+more_if true q v x = more q v x
+more_if false q v x = x
 
-changed-if : (a b : ℕ) (q v : ℤ) (xs : List (Keyed Account)) → account_of a (changed b q v xs) ≡ more-if (eqb a b) q v (account_of a xs)
-changed-if a b q v xs = by (eqb a b) refl
+changed_if : (a b : ℕ) (q v : ℤ) (xs : List (Keyed Account)) → account_of a (changed b q v xs) ≡ more_if (eqb a b) q v (account_of a xs)
+changed_if a b q v xs = by (eqb a b) refl
   where
-    by : (t : Bool) → eqb a b ≡ t → account_of a (changed b q v xs) ≡ more-if t q v (account_of a xs)
-    by true h = changed-same a b q v xs (eqb-true a b h)
-    by false h = changed-other a b q v xs (eqb-false a b h)
+    by : (t : Bool) → eqb a b ≡ t → account_of a (changed b q v xs) ≡ more_if t q v (account_of a xs)
+    by true h = changed_same a b q v xs (eqb-true a b h)
+    by false h = changed_other a b q v xs (eqb-false a b h)
 
 abbrev held : ℤ → ℤ → ℤ → Account
 held units close cost = record { units = units; units_at_close = close; cost = cost }
 
-same-account : (x y : Account) → y.units ≡ x.units → y.units_at_close ≡ x.units_at_close → y.cost ≡ x.cost → y ≡ x
-same-account x y units close cost =
+same_account : (x y : Account) → y.units ≡ x.units → y.units_at_close ≡ x.units_at_close → y.cost ≡ x.cost → y ≡ x
+same_account x y units close cost =
     ap (λ z. held z y.units_at_close y.cost) units ∙ ap (λ z. held x.units z y.cost) close ∙ ap (held x.units x.units_at_close) cost
 
-more-back : (buys sells : Bool) (q v : ℤ) (x : Account) → more-if sells q v (more-if buys (neg_ℤ q) (neg_ℤ v) (more-if sells (neg_ℤ q) (neg_ℤ v) (more-if buys q v x))) ≡ x
-more-back true true q v x =
-    same-account x (more q v (more (neg_ℤ q) (neg_ℤ v) (more (neg_ℤ q) (neg_ℤ v) (more q v x)))) (omega (arith, ints)) refl (omega (arith, ints))
-more-back true false q v x = same-account x (more (neg_ℤ q) (neg_ℤ v) (more q v x)) (omega (arith, ints)) refl (omega (arith, ints))
-more-back false true q v x = same-account x (more q v (more (neg_ℤ q) (neg_ℤ v) x)) (omega (arith, ints)) refl (omega (arith, ints))
-more-back false false q v x = refl
+more_back : (buys sells : Bool) (q v : ℤ) (x : Account) → more_if sells q v (more_if buys (neg_ℤ q) (neg_ℤ v) (more_if sells (neg_ℤ q) (neg_ℤ v) (more_if buys q v x))) ≡ x
+more_back true true q v x =
+    same_account x (more q v (more (neg_ℤ q) (neg_ℤ v) (more (neg_ℤ q) (neg_ℤ v) (more q v x)))) (omega (arith, ints)) refl (omega (arith, ints))
+more_back true false q v x = same_account x (more (neg_ℤ q) (neg_ℤ v) (more q v x)) (omega (arith, ints)) refl (omega (arith, ints))
+more_back false true q v x = same_account x (more q v (more (neg_ℤ q) (neg_ℤ v) x)) (omega (arith, ints)) refl (omega (arith, ints))
+more_back false false q v x = refl
 
 given_back : (t : Trade) (xs : List (Keyed Account)) (a : ℕ) → account_of a (busted t (traded t xs)) ≡ account_of a xs
 given_back t xs a =
@@ -50,11 +50,11 @@ given_back t xs a =
     let one = changed t.buyer q v xs in
     let two = traded t xs in
     let three = changed t.buyer (neg_ℤ q) (neg_ℤ v) two in
-    changed-if a t.seller q v three
-    ∙ ap (more-if sells q v) (changed-if a t.buyer (neg_ℤ q) (neg_ℤ v) two
-    ∙ ap (more-if buys (neg_ℤ q) (neg_ℤ v)) (changed-if a t.seller (neg_ℤ q) (neg_ℤ v) one
-    ∙ ap (more-if sells (neg_ℤ q) (neg_ℤ v)) (changed-if a t.buyer q v xs)))
-    ∙ more-back buys sells q v (account_of a xs)
+    changed_if a t.seller q v three
+    ∙ ap (more_if sells q v) (changed_if a t.buyer (neg_ℤ q) (neg_ℤ v) two
+    ∙ ap (more_if buys (neg_ℤ q) (neg_ℤ v)) (changed_if a t.seller (neg_ℤ q) (neg_ℤ v) one
+    ∙ ap (more_if sells (neg_ℤ q) (neg_ℤ v)) (changed_if a t.buyer q v xs)))
+    ∙ more_back buys sells q v (account_of a xs)
 
 -- ---- the sum of a figure of the records, which a change of q units at the cost v raises by `rise q v`
 
@@ -63,8 +63,8 @@ module _ (figure : Account → ℤ) (none : figure no_position ≡ pos 0) (rise 
   amount_position None = sym none
   amount_position (Some x) = refl
 
-  sum-changed : (b : ℕ) (q v : ℤ) (xs : List (Keyed Account)) → sum_of (λ (x : Keyed Account). figure x.value) (changed b q v xs) ≡ sum_of (λ (x : Keyed Account). figure x.value) xs +ℤ rise q v
-  sum-changed b q v xs =
+  sum_changed : (b : ℕ) (q v : ℤ) (xs : List (Keyed Account)) → sum_of (λ (x : Keyed Account). figure x.value) (changed b q v xs) ≡ sum_of (λ (x : Keyed Account). figure x.value) xs +ℤ rise q v
+  sum_changed b q v xs =
       let one = sum-put (λ (x : Keyed Account). figure x.value) (record { key = b; value = more q v (account_of b xs) }) xs in
       let two = amount_position (find_in b xs) in
       let three = raised q v (account_of b xs) in
@@ -73,12 +73,12 @@ module _ (figure : Account → ℤ) (none : figure no_position ≡ pos 0) (rise 
   sum_moved : (b s : ℕ) (q v : ℤ) (xs : List (Keyed Account)) → ((z : ℤ) → z +ℤ rise q v +ℤ rise (neg_ℤ q) (neg_ℤ v) ≡ z)
       → sum_of (λ (x : Keyed Account). figure x.value) (changed s (neg_ℤ q) (neg_ℤ v) (changed b q v xs)) ≡ sum_of (λ (x : Keyed Account). figure x.value) xs
   sum_moved b s q v xs back =
-      sum-changed s (neg_ℤ q) (neg_ℤ v) (changed b q v xs)
-      ∙ ap (λ z. z +ℤ rise (neg_ℤ q) (neg_ℤ v)) (sum-changed b q v xs)
+      sum_changed s (neg_ℤ q) (neg_ℤ v) (changed b q v xs)
+      ∙ ap (λ z. z +ℤ rise (neg_ℤ q) (neg_ℤ v)) (sum_changed b q v xs)
       ∙ back (sum_of (λ (x : Keyed Account). figure x.value) xs)
 
-moved-totals : (b s : ℕ) (q v : ℤ) (xs : List (Keyed Account)) → SameTotals xs (changed s (neg_ℤ q) (neg_ℤ v) (changed b q v xs))
-moved-totals b s q v xs = record {
+moved_totals : (b s : ℕ) (q v : ℤ) (xs : List (Keyed Account)) → SameTotals xs (changed s (neg_ℤ q) (neg_ℤ v) (changed b q v xs))
+moved_totals b s q v xs = record {
   units = sum_moved (λ (x : Account). x.units) refl (λ q v. q) (λ q v x. refl) b s q v xs (λ z. there_and_back z q);
   at_close = sum_moved (λ (x : Account). x.units_at_close) refl (λ q v. pos 0) (λ q v x. omega (arith, ints)) b s q v xs (λ z. omega (arith, ints));
   cost = sum_moved (λ (x : Account). x.cost) refl (λ q v. v) (λ q v x. refl) b s q v xs (λ z. there_and_back z v);
@@ -89,21 +89,21 @@ bust_totals t xs =
     let q = pos t.units in
     let v = cost_of t in
     let ys = changed t.buyer (neg_ℤ q) (neg_ℤ v) xs in
-    subst (SameTotals xs) (both (λ q v. changed t.seller q v ys) (neg_ℤ-neg_ℤ q) (neg_ℤ-neg_ℤ v)) (moved-totals t.buyer t.seller (neg_ℤ q) (neg_ℤ v) xs)
+    subst (SameTotals xs) (both (λ q v. changed t.seller q v ys) (neg_ℤ-neg_ℤ q) (neg_ℤ-neg_ℤ v)) (moved_totals t.buyer t.seller (neg_ℤ q) (neg_ℤ v) xs)
 
 pub positions_balance : PositionsBalance
 positions_balance = record {
   given_back = given_back;
   place_back = λ ticket t ts new. take-put_new (record { key = ticket; value = t }) ts new;
-  trade_totals = λ t xs. moved-totals t.buyer t.seller (pos t.units) (cost_of t) xs;
+  trade_totals = λ t xs. moved_totals t.buyer t.seller (pos t.units) (cost_of t) xs;
   bust_totals = bust_totals;
 }
 
 -- ---- nothing changed, or a bust where the trade is found
 
-pub same-totals : (xs : List (Keyed Account)) → SameTotals xs xs
-same-totals xs = record { units = refl; at_close = refl; cost = refl }
+pub same_totals : (xs : List (Keyed Account)) → SameTotals xs xs
+same_totals xs = record { units = refl; at_close = refl; cost = refl }
 
-pub undone-totals : (o : Option (Keyed Trade)) (xs : List (Keyed Account)) → SameTotals xs (undone o xs)
-undone-totals None xs = same-totals xs
-undone-totals (Some t) xs = bust_totals t.value xs
+pub undone_totals : (o : Option (Keyed Trade)) (xs : List (Keyed Account)) → SameTotals xs (undone o xs)
+undone_totals None xs = same_totals xs
+undone_totals (Some t) xs = bust_totals t.value xs

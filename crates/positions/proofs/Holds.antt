@@ -13,10 +13,10 @@ fits_inside z h = let size : nat_abs z ≤ most_cost = grind (arith, nat_tests) 
 fits_units : (z : ℤ) → inside most_units z ≡ true → SFits w64 z
 fits_units z h = let size : nat_abs z ≤ most_units = grind (arith, nat_tests) in omega (arith, ints)
 
-pub units-fit : (q : ℤ) (x : Account) → units_hold q x ≡ true → SFits w64 (x.units +ℤ q)
+pub units_fit : (q : ℤ) (x : Account) → units_hold q x ≡ true → SFits w64 (x.units +ℤ q)
 unfolding units_hold
-units-fit q x h = fits_units (x.units +ℤ q) (and_parts (units_within x) (inside most_units (x.units +ℤ q)) h).1
+units_fit q x h = fits_units (x.units +ℤ q) (and_parts (units_within x) (inside most_units (x.units +ℤ q)) h).1
 
-pub cost-fits : (v : ℤ) (x : Account) → cost_holds v x ≡ true → SFits w64 (x.cost +ℤ v)
+pub cost_fits : (v : ℤ) (x : Account) → cost_holds v x ≡ true → SFits w64 (x.cost +ℤ v)
 unfolding cost_holds
-cost-fits v x h = fits_inside (x.cost +ℤ v) (and_parts (cost_within x) (inside most_cost (x.cost +ℤ v)) h).1
+cost_fits v x h = fits_inside (x.cost +ℤ v) (and_parts (cost_within x) (inside most_cost (x.cost +ℤ v)) h).1

@@ -7,9 +7,9 @@ abs_neg : (n : ℕ) → nat_abs (neg_ℤ (pos n)) ≡ n
 abs_neg zero = refl
 abs_neg (suc n) = refl
 
-abs-scaled : (n : ℕ) (z : ℤ) → nat_abs (pos n *ℤ z) ≡ n * nat_abs z
-abs-scaled n (pos m) = refl
-abs-scaled n (negsuc m) = abs_neg (n * suc m)
+abs_scaled : (n : ℕ) (z : ℤ) → nat_abs (pos n *ℤ z) ≡ n * nat_abs z
+abs_scaled n (pos m) = refl
+abs_scaled n (negsuc m) = abs_neg (n * suc m)
 
 module _ (units : ℕ) (price : ℤ) (few : units < 2 ^ 32) (fits : SFits w64 price) where
   pub small : nat_abs (pos units *ℤ price) < 2 ^ 96
@@ -18,11 +18,11 @@ module _ (units : ℕ) (price : ℤ) (few : units < 2 ^ 32) (fits : SFits w64 pr
       let least : units ≤ 2 ^ 32 = omega arith in
       let one = mul-le-mul_left units size in
       let two = mul-le-mul_right (2 ^ 63) least in
-      let is = abs-scaled units price in
+      let is = abs_scaled units price in
       omega arith
 
-  product-fits : SFits w128 (pos units *ℤ price)
-  product-fits = let s = small in omega (arith, ints)
+  product_fits : SFits w128 (pos units *ℤ price)
+  product_fits = let s = small in omega (arith, ints)
 
   -- the product as the code computes it
   product_is : to_z w128 units *ℤ to_z w128 (of_z w128 (to_z w64 (of_z w64 price))) ≡ pos units *ℤ price
@@ -33,7 +33,7 @@ module _ (units : ℕ) (price : ℤ) (few : units < 2 ^ 32) (fits : SFits w64 pr
       ∙ ap (λ z. pos units *ℤ z) (to_z-of_z w128 price wide)
 
   pub computed_fits : SFits w128 (to_z w128 units *ℤ to_z w128 (of_z w128 (to_z w64 (of_z w64 price))))
-  computed_fits = subst (SFits w128) (sym product_is) product-fits
+  computed_fits = subst (SFits w128) (sym product_is) product_fits
 
   pub computed : to_z w128 (of_z w128 (to_z w128 units *ℤ to_z w128 (of_z w128 (to_z w64 (of_z w64 price))))) ≡ pos units *ℤ price
-  computed = ap (λ z. to_z w128 (of_z w128 z)) product_is ∙ to_z-of_z w128 (pos units *ℤ price) product-fits
+  computed = ap (λ z. to_z w128 (of_z w128 z)) product_is ∙ to_z-of_z w128 (pos units *ℤ price) product_fits

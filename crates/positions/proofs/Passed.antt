@@ -6,7 +6,7 @@ use Rattle.faults.specs.Checks.{first_fault}
 use Rattle.table.specs.declared.keyed.Keyed.{Keyed}
 use Rattle.table.specs.Records.{find_in}
 use Rattle.table.specs.View.{place_for}
-use Rattle.table.proofs.Laws.{holds_put, place-within}
+use Rattle.table.proofs.Laws.{holds_put, place_within}
 use Rattle.positions.specs.declared.records.Account.{Account}
 use Rattle.positions.specs.declared.records.Trade.{Trade}
 use Rattle.positions.specs.Limits.{account_places, trade_places}
@@ -30,27 +30,27 @@ pub record BothAllowed (room b s : ℕ) (xs : List (Keyed Account)) (q v : ℤ) 
 
 -- ---- a trade
 
-pub entry-allowed : (room trade_room : ℕ) (xs : List (Keyed Account)) (ts : List (Keyed Trade)) (ticket : ℕ) (t : Trade)
+pub entry_allowed : (room trade_room : ℕ) (xs : List (Keyed Account)) (ts : List (Keyed Trade)) (ticket : ℕ) (t : Trade)
     → first_fault (entry_checks room trade_room xs ts ticket t) ≡ None
     → BothAllowed room t.buyer t.seller xs (pos t.units) (cost_of t) × (place_for trade_room ticket ts ≡ true)
 unfolding has_account_place has_trade_place
-entry-allowed room trade_room xs ts ticket t h =
+entry_allowed room trade_room xs ts ticket t h =
     let p = all_pass (entry_checks room trade_room xs ts ticket t) h in (
       record {
-        buyer = record { units = p.0; cost = p.1.1.1.1.1.1.0; place = place-within room account_places t.buyer xs p.1.1.0 };
+        buyer = record { units = p.0; cost = p.1.1.1.1.1.1.0; place = place_within room account_places t.buyer xs p.1.1.0 };
         seller = record {
           units = p.1.0;
           cost = p.1.1.1.1.1.1.1.0;
-          place = place-within room account_places t.seller (changed t.buyer (pos t.units) (cost_of t) xs) p.1.1.1.0;
+          place = place_within room account_places t.seller (changed t.buyer (pos t.units) (cost_of t) xs) p.1.1.1.0;
         };
       },
-      place-within trade_room trade_places ticket ts p.1.1.1.1.0,
+      place_within trade_room trade_places ticket ts p.1.1.1.1.0,
     )
 
 -- ---- a bust
 
-unless-absent : (there holds : Bool) → (not there || holds) ≡ true → there ≡ true → holds ≡ true
-unless-absent there holds h e = sym (ap (λ b. not b || holds) e) ∙ h
+unless_absent : (there holds : Bool) → (not there || holds) ≡ true → there ≡ true → holds ≡ true
+unless_absent there holds h e = sym (ap (λ b. not b || holds) e) ∙ h
 
 pub bust_allowed : (room : ℕ) (xs : List (Keyed Account)) (t : Trade) → first_fault (bust_checks_of t xs) ≡ None
     → BothAllowed room t.buyer t.seller xs (neg_ℤ (pos t.units)) (neg_ℤ (cost_of t))
@@ -65,12 +65,12 @@ bust_allowed room xs t h =
     ∙ or_right (eqb t.buyer t.seller) (is_there t.seller xs) there.1 in
     record {
       buyer = record {
-        units = unless-absent (is_there t.buyer xs) (units_hold q (account_of t.buyer xs)) p.0 there.0;
+        units = unless_absent (is_there t.buyer xs) (units_hold q (account_of t.buyer xs)) p.0 there.0;
         cost = p.1.1.1.0;
         place = or_left (is_there t.buyer xs) (ltb (length xs) room) there.0;
       };
       seller = at_change (λ q v. Allowed room t.seller q v ys) (neg_ℤ-neg_ℤ (pos t.units)) (neg_ℤ-neg_ℤ (cost_of t)) record {
-        units = unless-absent (is_there t.seller xs) (units_hold (pos t.units) (account_of t.seller ys)) p.1.0 there.1;
+        units = unless_absent (is_there t.seller xs) (units_hold (pos t.units) (account_of t.seller ys)) p.1.0 there.1;
         cost = p.1.1.1.1.0;
         place = or_left (is_some (find_in t.seller ys)) (ltb (length ys) room) found;
       };

@@ -12,14 +12,14 @@ pub both : {A : Type 0} (f : ℤ → ℤ → A) {q q' v v' : ℤ} → q ≡ q' �
 both f {q' = q'} {v = v} e g = ap (λ z. f z v) e ∙ ap (f q') g
 
 module _ (a b : ℕ) (q v : ℤ) (xs : List (Keyed Account)) where
-  pub changed-same : a ≡ b → account_of a (changed b q v xs) ≡ more q v (account_of a xs)
-  changed-same e =
+  pub changed_same : a ≡ b → account_of a (changed b q v xs) ≡ more q v (account_of a xs)
+  changed_same e =
       ap (λ k. account_of k (changed b q v xs)) e
       ∙ ap position (find-put_same (record { key = b; value = more q v (account_of b xs) }) xs)
       ∙ ap (λ k. more q v (account_of k xs)) (sym e)
 
-  pub changed-other : (a ≡ b → ⊥) → account_of a (changed b q v xs) ≡ account_of a xs
-  changed-other ne = ap position (find-put_other (record { key = b; value = more q v (account_of b xs) }) a xs ne)
+  pub changed_other : (a ≡ b → ⊥) → account_of a (changed b q v xs) ≡ account_of a xs
+  changed_other ne = ap position (find-put_other (record { key = b; value = more q v (account_of b xs) }) a xs ne)
 
 pub there_and_back : (z q : ℤ) → z +ℤ q +ℤ neg_ℤ q ≡ z
 there_and_back z q = omega (arith, ints)
@@ -42,14 +42,14 @@ turned_two false false = refl
 
 -- a change back meets the same limits
 module _ (q v : ℤ) (x : Account) where
-  pub units-back : units_hold q x ≡ units_hold (neg_ℤ q) (more q v x)
+  pub units_back : units_hold q x ≡ units_hold (neg_ℤ q) (more q v x)
   unfolding units_hold
-  units-back =
+  units_back =
       turned (inside most_units x.units) (inside most_units x.units_at_close) (inside most_units (x.units +ℤ q))
       ∙ ap (λ z. inside most_units (x.units +ℤ q) && inside most_units x.units_at_close && inside most_units z) (sym (there_and_back x.units q))
 
-  pub cost-back : cost_holds v x ≡ cost_holds (neg_ℤ v) (more q v x)
+  pub cost_back : cost_holds v x ≡ cost_holds (neg_ℤ v) (more q v x)
   unfolding cost_holds
-  cost-back =
+  cost_back =
       turned_two (inside most_cost x.cost) (inside most_cost (x.cost +ℤ v))
       ∙ ap (λ z. inside most_cost (x.cost +ℤ v) && inside most_cost z) (sym (there_and_back x.cost v))

@@ -3,7 +3,7 @@ use Rattle.std.proofs.Common.{◌≡◌, ℕ, ◌+◌, ◌<◌, Bool, true, fals
 use Rattle.std.proofs.lemmas.List.{take-append-drop, drop_more, take_more}
 use Rattle.faults.specs.declared.Refusal.{Refusal}
 use Rattle.faults.specs.Checks.{Check, check, first_fault}
-use Rattle.faults.proofs.Rows.{first-passed}
+use Rattle.faults.proofs.Rows.{first_passed}
 use Rattle.positions.specs.declared.check.Check.{Check as Checked}
 use Rattle.positions.specs.Checking.{told}
 
@@ -14,7 +14,7 @@ map-++ f (x ∷ xs) ys = ap (λ q. f x ∷ q) (map-++ f xs ys)
 -- the check of the place i, after some that pass
 module _ {A : Type 0} (f : A → Check) (xs : List A) (i : ℕ) (d : A) (h : i < length xs) (before : first_fault (map f (take i xs)) ≡ None) where
   next_first : (rest : List A) → first_fault (map f (take i xs ++ (get_or xs i d ∷ rest))) ≡ cond (f (get_or xs i d)).passes (first_fault (map f rest)) (Some (f (get_or xs i d)).fault)
-  next_first rest = ap first_fault (map-++ f (take i xs) (get_or xs i d ∷ rest)) ∙ first-passed (map f (take i xs)) (map f (get_or xs i d ∷ rest)) before
+  next_first rest = ap first_fault (map-++ f (take i xs) (get_or xs i d ∷ rest)) ∙ first_passed (map f (take i xs)) (map f (get_or xs i d ∷ rest)) before
 
   pub next_passes : (f (get_or xs i d)).passes ≡ true → first_fault (map f (take (i + 1) xs)) ≡ None
   next_passes p = ap (λ q. first_fault (map f q)) (take_more xs i d h) ∙ next_first [] ∙ ap (λ b. cond b None (Some (f (get_or xs i d)).fault)) p

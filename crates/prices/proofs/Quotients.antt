@@ -12,18 +12,18 @@ div_order m n d p h =
     let l : m / d * d ≤ n = omega (arith, div-mul-le_self m d) in
     (le-div_iff_mul-le p).1 l
 
-pub nearest-low : (n d : ℕ) → 2 * (nearest n d * d) ≤ 2 * n + d
-nearest-low n d = omega (arith, div-mul-le_self (2 * n + d) (2 * d))
+pub nearest_low : (n d : ℕ) → 2 * (nearest n d * d) ≤ 2 * n + d
+nearest_low n d = omega (arith, div-mul-le_self (2 * n + d) (2 * d))
 
-pub nearest-high : (n d : ℕ) → 0 < d → 2 * n < 2 * (nearest n d * d) + d
-nearest-high n d p =
+pub nearest_high : (n d : ℕ) → 0 < d → 2 * n < 2 * (nearest n d * d) + d
+nearest_high n d p =
     let q : 0 < 2 * d = omega arith in
     let h : 2 * n + d < nearest n d * (2 * d) + 2 * d = lt-div-mul-add q in
     omega arith
 
 -- a quotient of at most X rounds to at most X
-pub nearest-most : (n d X : ℕ) → 0 < d → n ≤ X * d → nearest n d ≤ X
-nearest-most n d X p h =
+pub nearest_most : (n d X : ℕ) → 0 < d → n ≤ X * d → nearest n d ≤ X
+nearest_most n d X p h =
     let q : 0 < 2 * d = omega arith in
     let r : 2 * n + d < (X + 1) * (2 * d) = omega arith in
     let s : nearest n d < X + 1 = (div-lt_iff_lt-mul q).1 r in
@@ -63,13 +63,13 @@ up_order m n d p h = div_order (m + (d - 1)) (n + (d - 1)) d p (omega arith)
 
 -- ---- signed
 
-neg-times : (q d : ℕ) → neg_ℤ (pos q) *ℤ pos d ≡ neg_ℤ (pos (q * d))
-neg-times zero d = rw (zero-mul d) refl
-neg-times (suc q) d = refl
+neg_times : (q d : ℕ) → neg_ℤ (pos q) *ℤ pos d ≡ neg_ℤ (pos (q * d))
+neg_times zero d = rw (zero-mul d) refl
+neg_times (suc q) d = refl
 
-neg-size : (q : ℕ) → nat_abs (neg_ℤ (pos q)) ≡ q
-neg-size zero = refl
-neg-size (suc q) = refl
+neg_size : (q : ℕ) → nat_abs (neg_ℤ (pos q)) ≡ q
+neg_size zero = refl
+neg_size (suc q) = refl
 
 -- below zero the size is rounded
 nearest-neg : (n d : ℕ) → 0 < d → nearestℤ (neg_ℤ (pos n)) d ≡ neg_ℤ (pos (nearest n d))
@@ -92,14 +92,14 @@ half_below : (q n d : ℕ) → 2 * suc n < 2 * (q * d) + d → 2 * nat_abs (neg_
 half_below q n d h t = omega (arith, ints)
 
 pub signed_near : (z : ℤ) (d : ℕ) → 0 < d → 2 * nat_abs (nearestℤ z d *ℤ pos d -ℤ z) ≤ d
-signed_near (pos n) d p = omega (arith, ints, nearest-low n d, nearest-high n d p)
+signed_near (pos n) d p = omega (arith, ints, nearest_low n d, nearest_high n d p)
 signed_near (negsuc n) d p =
-    rw (neg-times (nearest (suc n) d) d) (near_below (nearest (suc n) d) n d (nearest-low (suc n) d) (nearest-high (suc n) d p))
+    rw (neg_times (nearest (suc n) d) d) (near_below (nearest (suc n) d) n d (nearest_low (suc n) d) (nearest_high (suc n) d p))
 
 pub signed_half : (z : ℤ) (d : ℕ) → 0 < d → 2 * nat_abs (nearestℤ z d *ℤ pos d -ℤ z) ≡ d → nat_abs z < nat_abs (nearestℤ z d) * d
-signed_half (pos n) d p t = omega (arith, ints, nearest-high n d p)
+signed_half (pos n) d p t = omega (arith, ints, nearest_high n d p)
 signed_half (negsuc n) d p t =
-    rw (neg-size (nearest (suc n) d)) (half_below (nearest (suc n) d) n d (nearest-high (suc n) d p) (rw (neg-times (nearest (suc n) d) d) at t))
+    rw (neg_size (nearest (suc n) d)) (half_below (nearest (suc n) d) n d (nearest_high (suc n) d p) (rw (neg_times (nearest (suc n) d) d) at t))
 
 order_below : (a b : ℕ) → b ≤ a → neg_ℤ (pos a) ≤ℤ neg_ℤ (pos b)
 order_below a b h = omega (arith, ints)

@@ -15,13 +15,13 @@ none : (last F : ℤ) → pos 0 *ℤ (F -ℤ last) +ℤ (pos 0 -ℤ pos 0) *ℤ 
 none last F = ap (λ z. z +ℤ pos 0 *ℤ F -ℤ pos 0) (zero-*ℤ (F -ℤ last)) ∙ ap (λ z. pos 0 +ℤ z -ℤ pos 0) (zero-*ℤ F)
 
 module _ (last F : ℤ) where
-  total-is : (xs : List (Keyed Account)) → total (payments last F xs) ≡ sum_of (λ x. x.value.units_at_close) xs *ℤ (F -ℤ last) +ℤ (sum_of (λ x. x.value.units) xs -ℤ sum_of (λ x. x.value.units_at_close) xs) *ℤ F -ℤ sum_of (λ x. x.value.cost) xs
-  total-is [] = sym (none last F)
-  total-is (x ∷ xs) = rw (total-is xs) (more last F x.value.units_at_close x.value.units x.value.cost (sum_of (λ y. y.value.units_at_close) xs) (sum_of (λ y. y.value.units) xs) (sum_of (λ y. y.value.cost) xs))
+  total_is : (xs : List (Keyed Account)) → total (payments last F xs) ≡ sum_of (λ x. x.value.units_at_close) xs *ℤ (F -ℤ last) +ℤ (sum_of (λ x. x.value.units) xs -ℤ sum_of (λ x. x.value.units_at_close) xs) *ℤ F -ℤ sum_of (λ x. x.value.cost) xs
+  total_is [] = sym (none last F)
+  total_is (x ∷ xs) = rw (total_is xs) (more last F x.value.units_at_close x.value.units x.value.cost (sum_of (λ y. y.value.units_at_close) xs) (sum_of (λ y. y.value.units) xs) (sum_of (λ y. y.value.cost) xs))
 
-pub payments-cancel : PaymentsCancel
-payments-cancel last F xs b =
+pub payments_cancel : PaymentsCancel
+payments_cancel last F xs b =
     let u = b.units in
     let p = b.units_at_close in
     let k = b.cost in
-    total-is last F xs ∙ rw (u, p, k) (none last F)
+    total_is last F xs ∙ rw (u, p, k) (none last F)

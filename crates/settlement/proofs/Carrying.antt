@@ -6,7 +6,7 @@ use Rattle.std.proofs.lemmas.List.{length-append, length-map, length-drop, lengt
 use Rattle.std.proofs.lemmas.Option.{slice_get-get_or}
 use Rattle.table.specs.declared.keyed.Keyed.{Keyed}
 use Rattle.table.specs.Records.{set_in}
-use Rattle.table.proofs.Values.{set-in_nth}
+use Rattle.table.proofs.Values.{set_in_nth}
 use Rattle.positions.specs.declared.records.Account.{Account}
 use Rattle.settlement.specs.declared.ending.Ending.{Ending}
 use Rattle.settlement.specs.Paying.{carried}
@@ -27,4 +27,4 @@ module _ (end : Ending) (xs ys : List (Keyed Account)) (i : ℕ) (below : i < le
   next x here =
       let at = slice_get-get_or ys i x (omega (arith, long)) in
       let read : x ≡ get_or ys i x = cc in
-      set-in_nth (carried end x).value i ys x here ∙ map_over_more (carried end) xs ys i x below so read
+      set_in_nth (carried end x).value i ys x here ∙ map_over_more (carried end) xs ys i x below so read

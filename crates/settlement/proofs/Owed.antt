@@ -10,16 +10,16 @@ use Rattle.settlement.specs.Paying.{payment, pay, is_known, is_in_range}
 use Rattle.settlement.specs.Owed.{formed, owed}
 
 module _ (last F : ℤ) (x : Keyed Account) where
-  pub owed-within : units_within x.value ≡ true → cost_within x.value ≡ true → owed last F x ≡ pay last F x
+  pub owed_within : units_within x.value ≡ true → cost_within x.value ≡ true → owed last F x ≡ pay last F x
   unfolding owed formed
-  owed-within u k =
+  owed_within u k =
       let at : Bool → Payment = λ b. record { account = x.key; amount = unwrap_or (cond b (Some (payment last F x.value)) None) (pos 0) } in
       ap at (ap (λ b. b && cost_within x.value) u ∙ k)
 
   module _ (m : Meaning) where
-    pub known-shown : (z k : Bool) → z ≡ is_zero (owed last F x).amount → k ≡ m.known x.key → (z || k) ≡ (is_known m last F x).passes
+    pub known_shown : (z k : Bool) → z ≡ is_zero (owed last F x).amount → k ≡ m.known x.key → (z || k) ≡ (is_known m last F x).passes
     unfolding owed formed is_known
-    known-shown z k ez ek =
+    known_shown z k ez ek =
         ap (λ t. t || k) ez
         ∙ ap (λ t. is_zero (unwrap_or (cond (units_within x.value && cost_within x.value) (Some (payment last F x.value)) None) (pos 0)) || t) ek
         ∙ by (units_within x.value && cost_within x.value)
@@ -39,6 +39,6 @@ module _ (last F : ℤ) (x : Keyed Account) where
         by true e =
             ap (λ t. t || r) ez
             ∙ ap (λ t. is_zero (owed last F x).amount || t) er
-            ∙ ap in_range (owed-within u (sym e))
+            ∙ ap in_range (owed_within u (sym e))
             ∙ ap (λ t. t && in_range (pay last F x)) e
         by false e = ap (λ t. t && in_range (pay last F x)) e

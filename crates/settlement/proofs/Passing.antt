@@ -8,7 +8,7 @@ use Rattle.faults.specs.declared.Fault.{Fault}
 use Rattle.faults.specs.declared.Refusal.TheVariants.{NoCapacity}
 use Rattle.faults.specs.Checks.{Check, ◌else◌, first_fault}
 use Rattle.faults.specs.Refusals.{plain}
-use Rattle.faults.proofs.Rows.{first-failed, first-passed}
+use Rattle.faults.proofs.Rows.{first_failed, first_passed}
 use Rattle.ledger.specs.Limits.{is_zero, reaches}
 use Rattle.ledger.specs.Meaning.{Meaning}
 use Rattle.ledger.specs.Payments.{due, made, known_check, range_checks, fault_of_all}
@@ -20,7 +20,7 @@ use Rattle.positions.specs.declared.records.Account.{Account}
 use Rattle.positions.specs.Limits.{units_within, cost_within}
 use Rattle.settlement.specs.Paying.{payment, pay, payments, is_known, has_units_within, is_in_range, pay_checks}
 use Rattle.settlement.specs.Owed.{owed}
-use Rattle.settlement.proofs.Owed.{owed-within}
+use Rattle.settlement.proofs.Owed.{owed_within}
 
 -- a row that passes: its first, and the others
 module _ (f : Keyed Account → Check) (x : Keyed Account) (xs : List (Keyed Account)) (e : first_fault (map f (x ∷ xs)) ≡ None) where
@@ -36,55 +36,55 @@ above_at : (k : ℕ) (ys : List (Keyed Account)) (x : Keyed Account) (zs : List 
 above_at k [] x zs h = grind (arith, nat_tests)
 above_at k (y ∷ ys) x zs h = let ih = above_at k ys x zs in grind (arith, nat_tests)
 
-units-passed : (x : Keyed Account) → (has_units_within x).passes ≡ true → units_within x.value ≡ true
+units_passed : (x : Keyed Account) → (has_units_within x).passes ≡ true → units_within x.value ≡ true
 unfolding has_units_within
-units-passed x p = p
+units_passed x p = p
 
 pub units_at : (xs : List (Keyed Account)) (i : ℕ) (d : Keyed Account) → i < length xs → first_fault (map has_units_within xs) ≡ None → units_within (get_or xs i d).value ≡ true
 units_at xs i d h u =
     let e = ap (map has_units_within) (cut xs i d h) ∙ map-++ has_units_within (take i xs) (get_or xs i d ∷ drop (i + 1) xs) in
-    units-passed (get_or xs i d) (passed (map has_units_within (take i xs)) (has_units_within (get_or xs i d)) (map has_units_within (drop (i + 1) xs)) (ap first_fault (sym e) ∙ u))
+    units_passed (get_or xs i d) (passed (map has_units_within (take i xs)) (has_units_within (get_or xs i d)) (map has_units_within (drop (i + 1) xs)) (ap first_fault (sym e) ∙ u))
 
 module _ (m : Meaning) (last F : ℤ) where
   -- so nothing is paid to it before its record
-  unpaid-before : (ys : List (Keyed Account)) (x : Keyed Account) (zs : List (Keyed Account)) → rising (ys ++ (x ∷ zs)) ≡ true → due (payments last F ys) x.key ≡ pos 0
-  unpaid-before [] x zs h = refl
-  unpaid-before (y ∷ ys) x zs h =
+  unpaid_before : (ys : List (Keyed Account)) (x : Keyed Account) (zs : List (Keyed Account)) → rising (ys ++ (x ∷ zs)) ≡ true → due (payments last F ys) x.key ≡ pos 0
+  unpaid_before [] x zs h = refl
+  unpaid_before (y ∷ ys) x zs h =
       let w = and_parts (above y.key (ys ++ (x ∷ zs))) (rising (ys ++ (x ∷ zs))) h in
       let lt : y.key < x.key = above_at y.key ys x zs w.0 in
       ap (λ q. q +ℤ due (payments last F ys) x.key) (cond-false _ _ _ (ne_eqb y.key x.key (λ e. omega arith)))
       ∙ +ℤ_idl (due (payments last F ys) x.key)
-      ∙ unpaid-before ys x zs w.1
+      ∙ unpaid_before ys x zs w.1
 
   -- ---- what passed checks say of the payments
 
-  cost-passed : (x : Keyed Account) → (is_in_range m last F x).passes ≡ true → cost_within x.value ≡ true
+  cost_passed : (x : Keyed Account) → (is_in_range m last F x).passes ≡ true → cost_within x.value ≡ true
   unfolding is_in_range
-  cost-passed x p = (and_parts (cost_within x.value) _ p).0
+  cost_passed x p = (and_parts (cost_within x.value) _ p).0
 
   range_passed : (x : Keyed Account) → (is_in_range m last F x).passes ≡ true → (is_zero (payment last F x.value) || reaches m.lowest m.highest (m.balance x.key) (payment last F x.value)) ≡ true
   unfolding is_in_range
   range_passed x p = (and_parts (cost_within x.value) _ p).1
 
-  known-passed : (x : Keyed Account) → units_within x.value ≡ true → cost_within x.value ≡ true → (is_known m last F x).passes ≡ true → (known_check m (pay last F x)).passes ≡ true
+  known_passed : (x : Keyed Account) → units_within x.value ≡ true → cost_within x.value ≡ true → (is_known m last F x).passes ≡ true → (known_check m (pay last F x)).passes ≡ true
   unfolding is_known
-  known-passed x u k p = sym (ap (λ b. not b || (is_zero (payment last F x.value) || m.known x.key)) (ap (λ b. b && cost_within x.value) u ∙ k)) ∙ p
+  known_passed x u k p = sym (ap (λ b. not b || (is_zero (payment last F x.value) || m.known x.key)) (ap (λ b. b && cost_within x.value) u ∙ k)) ∙ p
 
   pub all_owed : (xs : List (Keyed Account)) → first_fault (map has_units_within xs) ≡ None → first_fault (map (is_in_range m last F) xs) ≡ None → map (owed last F) xs ≡ payments last F xs
   all_owed [] u r = refl
   all_owed (x ∷ xs) u r =
-      let hu = units-passed x (first has_units_within x xs u) in
-      let hr = cost-passed x (first (is_in_range m last F) x xs r) in
-      ap (λ p. p ∷ map (owed last F) xs) (owed-within last F x hu hr)
+      let hu = units_passed x (first has_units_within x xs u) in
+      let hr = cost_passed x (first (is_in_range m last F) x xs r) in
+      ap (λ p. p ∷ map (owed last F) xs) (owed_within last F x hu hr)
       ∙ ap (λ ps. pay last F x ∷ ps) (all_owed xs (others has_units_within x xs u) (others (is_in_range m last F) x xs r))
 
-  known-row : (xs : List (Keyed Account)) → first_fault (map (is_known m last F) xs) ≡ None → first_fault (map has_units_within xs) ≡ None → first_fault (map (is_in_range m last F) xs) ≡ None → first_fault (map (known_check m) (payments last F xs)) ≡ None
-  known-row [] k u r = refl
-  known-row (x ∷ xs) k u r =
+  known_row : (xs : List (Keyed Account)) → first_fault (map (is_known m last F) xs) ≡ None → first_fault (map has_units_within xs) ≡ None → first_fault (map (is_in_range m last F) xs) ≡ None → first_fault (map (known_check m) (payments last F xs)) ≡ None
+  known_row [] k u r = refl
+  known_row (x ∷ xs) k u r =
       let hk = first (is_known m last F) x xs k in
-      let hu = units-passed x (first has_units_within x xs u) in
-      let hr = cost-passed x (first (is_in_range m last F) x xs r) in
-      cond-true _ _ _ (known-passed x hu hr hk) ∙ known-row xs (others (is_known m last F) x xs k) (others has_units_within x xs u) (others (is_in_range m last F) x xs r)
+      let hu = units_passed x (first has_units_within x xs u) in
+      let hr = cost_passed x (first (is_in_range m last F) x xs r) in
+      cond-true _ _ _ (known_passed x hu hr hk) ∙ known_row xs (others (is_known m last F) x xs k) (others has_units_within x xs u) (others (is_in_range m last F) x xs r)
 
   -- the records ys are paid before
   range_row : (ys xs : List (Keyed Account)) → rising (ys ++ xs) ≡ true → first_fault (map (is_in_range m last F) xs) ≡ None → first_fault (range_checks m (payments last F ys) (payments last F xs)) ≡ None
@@ -93,7 +93,7 @@ module _ (m : Meaning) (last F : ℤ) where
       let Q : ℤ → Type 0 = λ b. (is_zero (payment last F x.value) || reaches m.lowest m.highest b (payment last F x.value)) ≡ true in
       let here = range_passed x (first (is_in_range m last F) x xs r) in
       let balance : m.balance x.key ≡ m.balance x.key +ℤ due (payments last F ys) x.key =
-      sym (ap (λ q. m.balance x.key +ℤ q) (unpaid-before ys x xs up) ∙ +ℤ_idr (m.balance x.key)) in
+      sym (ap (λ q. m.balance x.key +ℤ q) (unpaid_before ys x xs up) ∙ +ℤ_idr (m.balance x.key)) in
       let next = range_row (ys ++ (x ∷ [])) xs (ap rising (append_assoc ys (x ∷ []) xs) ∙ up) (others (is_in_range m last F) x xs r) in
       cond-true _ _ _ (subst Q balance here)
       ∙ ap (λ ps. first_fault (range_checks m ps (payments last F xs))) (sym (map-++ (pay last F) ys (x ∷ [])))
@@ -101,52 +101,52 @@ module _ (m : Meaning) (last F : ℤ) where
 
   module _ (xs : List (Keyed Account)) where
     -- the checks, kind by kind
-    pub unknown-among : (fault : Fault) → first_fault (map (is_known m last F) xs) ≡ Some fault → first_fault (pay_checks m last (Some F) xs) ≡ Some fault
-    unknown-among fault k = first-failed (map (is_known m last F) xs) _ fault k
+    pub unknown_among : (fault : Fault) → first_fault (map (is_known m last F) xs) ≡ Some fault → first_fault (pay_checks m last (Some F) xs) ≡ Some fault
+    unknown_among fault k = first_failed (map (is_known m last F) xs) _ fault k
 
     module _ (k : first_fault (map (is_known m last F) xs) ≡ None) where
-      past-known : first_fault (pay_checks m last (Some F) xs) ≡ first_fault (map has_units_within xs ++ (map (is_in_range m last F) xs ++ ((leb (made (payments last F xs)) m.capacity else NoCapacity) ∷ [])))
-      past-known = first-passed (map (is_known m last F) xs) _ k
+      past_known : first_fault (pay_checks m last (Some F) xs) ≡ first_fault (map has_units_within xs ++ (map (is_in_range m last F) xs ++ ((leb (made (payments last F xs)) m.capacity else NoCapacity) ∷ [])))
+      past_known = first_passed (map (is_known m last F) xs) _ k
 
-      pub units-among : (fault : Fault) → first_fault (map has_units_within xs) ≡ Some fault → first_fault (pay_checks m last (Some F) xs) ≡ Some fault
-      units-among fault u = past-known ∙ first-failed (map has_units_within xs) _ fault u
+      pub units_among : (fault : Fault) → first_fault (map has_units_within xs) ≡ Some fault → first_fault (pay_checks m last (Some F) xs) ≡ Some fault
+      units_among fault u = past_known ∙ first_failed (map has_units_within xs) _ fault u
 
       module _ (u : first_fault (map has_units_within xs) ≡ None) where
         past_units : first_fault (pay_checks m last (Some F) xs) ≡ first_fault (map (is_in_range m last F) xs ++ ((leb (made (payments last F xs)) m.capacity else NoCapacity) ∷ []))
-        past_units = past-known ∙ first-passed (map has_units_within xs) _ u
+        past_units = past_known ∙ first_passed (map has_units_within xs) _ u
 
         pub range_among : (fault : Fault) → first_fault (map (is_in_range m last F) xs) ≡ Some fault → first_fault (pay_checks m last (Some F) xs) ≡ Some fault
-        range_among fault r = past_units ∙ first-failed (map (is_in_range m last F) xs) _ fault r
+        range_among fault r = past_units ∙ first_failed (map (is_in_range m last F) xs) _ fault r
 
         module _ (r : first_fault (map (is_in_range m last F) xs) ≡ None) where
-          past-range : first_fault (pay_checks m last (Some F) xs) ≡ first_fault ((leb (made (payments last F xs)) m.capacity else NoCapacity) ∷ [])
-          past-range = past_units ∙ first-passed (map (is_in_range m last F) xs) _ r
+          past_range : first_fault (pay_checks m last (Some F) xs) ≡ first_fault ((leb (made (payments last F xs)) m.capacity else NoCapacity) ∷ [])
+          past_range = past_units ∙ first_passed (map (is_in_range m last F) xs) _ r
 
           count_same : made (map (owed last F) xs) ≡ made (payments last F xs)
           count_same = ap made (all_owed xs u r)
 
           pub too_many : m.capacity < made (map (owed last F) xs) → first_fault (pay_checks m last (Some F) xs) ≡ Some (plain NoCapacity)
-          too_many h = let e = count_same in past-range ∙ cond-false _ _ _ (lt-leb (made (payments last F xs)) m.capacity (omega arith))
+          too_many h = let e = count_same in past_range ∙ cond-false _ _ _ (lt-leb (made (payments last F xs)) m.capacity (omega arith))
 
           pub all_passed : made (map (owed last F) xs) ≤ m.capacity → first_fault (pay_checks m last (Some F) xs) ≡ None
-          all_passed h = let e = count_same in past-range ∙ cond-true _ _ _ (le-leb (made (payments last F xs)) m.capacity (omega arith))
+          all_passed h = let e = count_same in past_range ∙ cond-true _ _ _ (le-leb (made (payments last F xs)) m.capacity (omega arith))
 
     -- what is left once all have passed
     module _ (ok : first_fault (pay_checks m last (Some F) xs) ≡ None) where
-      known-none : first_fault (map (is_known m last F) xs) ≡ None
-      known-none = (none_both _ _ (sym (first-++ (map (is_known m last F) xs) _) ∙ ok)).0
+      known_none : first_fault (map (is_known m last F) xs) ≡ None
+      known_none = (none_both _ _ (sym (first-++ (map (is_known m last F) xs) _) ∙ ok)).0
 
-      units-none : first_fault (map has_units_within xs) ≡ None
-      units-none = (none_both _ _ (sym (first-++ (map has_units_within xs) _) ∙ sym (past-known known-none) ∙ ok)).0
+      units_none : first_fault (map has_units_within xs) ≡ None
+      units_none = (none_both _ _ (sym (first-++ (map has_units_within xs) _) ∙ sym (past_known known_none) ∙ ok)).0
 
       range_none : first_fault (map (is_in_range m last F) xs) ≡ None
-      range_none = (none_both _ _ (sym (first-++ (map (is_in_range m last F) xs) _) ∙ sym (past_units known-none units-none) ∙ ok)).0
+      range_none = (none_both _ _ (sym (first-++ (map (is_in_range m last F) xs) _) ∙ sym (past_units known_none units_none) ∙ ok)).0
 
       pub owed_all : map (owed last F) xs ≡ payments last F xs
-      owed_all = all_owed xs units-none range_none
+      owed_all = all_owed xs units_none range_none
 
       pub never_refused : rising xs ≡ true → fault_of_all m (map (owed last F) xs) ≡ None
       never_refused up =
-          let room = passed [] (leb (made (payments last F xs)) m.capacity else NoCapacity) [] (sym (past-range known-none units-none range_none) ∙ ok) in
+          let room = passed [] (leb (made (payments last F xs)) m.capacity else NoCapacity) [] (sym (past_range known_none units_none range_none) ∙ ok) in
           subst (λ ps. fault_of_all m ps ≡ None) (sym owed_all)
-          (all_pass m (payments last F xs) (known-row xs known-none units-none range_none) (range_row [] xs up range_none) (leb-true _ _ room))
+          (all_pass m (payments last F xs) (known_row xs known_none units_none range_none) (range_row [] xs up range_none) (leb-true _ _ room))

@@ -32,11 +32,11 @@ abs-mul (pos a) (negsuc b) = abs_neg (pos (a * suc b))
 abs-mul (negsuc a) (pos b) = abs_neg (pos (suc a * b))
 abs-mul (negsuc a) (negsuc b) = refl
 
-pub product-most : (a b : ℤ) (m n : ℕ) → nat_abs a ≤ m → nat_abs b ≤ n → nat_abs (a *ℤ b) ≤ m * n
-product-most a b m n h k = rw abs-mul (mul-le-mul h k)
+pub product_most : (a b : ℤ) (m n : ℕ) → nat_abs a ≤ m → nat_abs b ≤ n → nat_abs (a *ℤ b) ≤ m * n
+product_most a b m n h k = rw abs-mul (mul-le-mul h k)
 
-pub sum-most : (a b : ℤ) (m n : ℕ) → nat_abs a ≤ m → nat_abs b ≤ n → nat_abs (a +ℤ b) ≤ m + n
-sum-most a b m n h k = omega (arith, ints)
+pub sum_most : (a b : ℤ) (m n : ℕ) → nat_abs a ≤ m → nat_abs b ≤ n → nat_abs (a +ℤ b) ≤ m + n
+sum_most a b m n h k = omega (arith, ints)
 
 pub difference_most : (a b : ℤ) (m n : ℕ) → nat_abs a ≤ m → nat_abs b ≤ n → nat_abs (a -ℤ b) ≤ m + n
 difference_most a b m n h k = omega (arith, ints)

@@ -22,8 +22,8 @@ module _ (f : Keyed Account → Payment) (xs : List (Keyed Account)) (i : ℕ) (
   pub count_none : is_zero p.amount ≡ true → made (take (i + 1) (map f xs)) ≡ made (take i (map f xs))
   count_none z = ap made more ∙ made_none (take i (map f xs)) p z
 
-  pub count-one : is_zero p.amount ≡ false → made (take (i + 1) (map f xs)) ≡ made (take i (map f xs)) + 1
-  count-one z = ap made more ∙ made_one (take i (map f xs)) p z
+  pub count_one : is_zero p.amount ≡ false → made (take (i + 1) (map f xs)) ≡ made (take i (map f xs)) + 1
+  count_one z = ap made more ∙ made_one (take i (map f xs)) p z
 
   module _ (m n : Meaning) (paid : Paid m (take i (map f xs)) n) where
     pub next_zero : is_zero p.amount ≡ true → Paid m (take (i + 1) (map f xs)) n

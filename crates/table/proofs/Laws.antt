@@ -59,5 +59,5 @@ module _ {V : Type 0} where
   put_lands n r xs ys a e f h = f ∙ cond-true (is_ok a) (put_in r xs) xs (ap is_ok e ∙ put_accepted n r xs ∙ h)
 
   -- a place within a limit is a place
-  pub place-within : (n limit k : ℕ) (xs : List (Keyed V)) → place_for (min n limit) k xs ≡ true → place_for n k xs ≡ true
-  place-within n limit k xs h = let low = min-le_left n limit in grind (arith, nat_tests)
+  pub place_within : (n limit k : ℕ) (xs : List (Keyed V)) → place_for (min n limit) k xs ≡ true → place_for n k xs ≡ true
+  place_within n limit k xs h = let low = min-le_left n limit in grind (arith, nat_tests)

@@ -24,11 +24,11 @@ module _ {V : Type 0} (k : ℕ) where
   put_past r e (p ∷ ps) qs (low, lows) = cond-true _ _ _ (lt-ltb p.key r.key (omega arith)) ∙ ap (λ q. p ∷ q) (put_past r e ps qs lows)
 
   -- what stands at the front
-  find-front : (x : Keyed V) (xs : List (Keyed V)) → x.key ≡ k → find_in k (x ∷ xs) ≡ Some x
-  find-front x xs e = cond-false _ _ _ (le-ltb x.key k (omega arith)) ∙ cond-true _ _ _ (eq-eqb x.key k e)
+  find_front : (x : Keyed V) (xs : List (Keyed V)) → x.key ≡ k → find_in k (x ∷ xs) ≡ Some x
+  find_front x xs e = cond-false _ _ _ (le-ltb x.key k (omega arith)) ∙ cond-true _ _ _ (eq-eqb x.key k e)
 
-  take-front : (x : Keyed V) (xs : List (Keyed V)) → x.key ≡ k → take_out k (x ∷ xs) ≡ xs
-  take-front x xs e = cond-false _ _ _ (le-ltb x.key k (omega arith)) ∙ cond-true _ _ _ (eq-eqb x.key k e)
+  take_front : (x : Keyed V) (xs : List (Keyed V)) → x.key ≡ k → take_out k (x ∷ xs) ≡ xs
+  take_front x xs e = cond-false _ _ _ (le-ltb x.key k (omega arith)) ∙ cond-true _ _ _ (eq-eqb x.key k e)
 
   put_front : (r x : Keyed V) (xs : List (Keyed V)) → r.key ≡ k → x.key ≡ k → put_in r (x ∷ xs) ≡ r ∷ xs
   put_front r x xs f e = cond-false _ _ _ (le-ltb x.key r.key (omega arith)) ∙ ap (λ q. r ∷ q) (cond-true _ _ _ (eq-eqb x.key r.key (omega arith)))
@@ -38,10 +38,10 @@ module _ {V : Type 0} (k : ℕ) where
   Begins-above [] = Unit {0}
   Begins-above (x ∷ xs) = k < x.key
 
-  find-beyond : (xs : List (Keyed V)) → Begins-above xs → find_in k xs ≡ None
+  find_beyond : (xs : List (Keyed V)) → Begins-above xs → find_in k xs ≡ None
   unfolding Begins-above
-  find-beyond [] _ = refl
-  find-beyond (x ∷ xs) h = cond-false _ _ _ (le-ltb x.key k (omega arith)) ∙ cond-false _ _ _ (ne_eqb x.key k (λ e. omega arith))
+  find_beyond [] _ = refl
+  find_beyond (x ∷ xs) h = cond-false _ _ _ (le-ltb x.key k (omega arith)) ∙ cond-false _ _ _ (ne_eqb x.key k (λ e. omega arith))
 
   take_beyond : (xs : List (Keyed V)) → Begins-above xs → take_out k xs ≡ xs
   unfolding Begins-above
@@ -58,17 +58,17 @@ module _ {V : Type 0} (k : ℕ) where
     cut : (d : Keyed V) → xs ≡ take i xs ++ (get_or xs i d ∷ drop (i + 1) xs)
     cut d = sym (take-append-drop i xs) ∙ ap (λ q. take i xs ++ q) (drop_more xs i d s.within)
 
-    pub find-stands : (d : Keyed V) → find_in k xs ≡ Some (get_or xs i d)
-    find-stands d =
+    pub find_stands : (d : Keyed V) → find_in k xs ≡ Some (get_or xs i d)
+    find_stands d =
         ap (find_in k) (cut d)
         ∙ find_past (take i xs) (get_or xs i d ∷ drop (i + 1) xs) s.before
-        ∙ find-front (get_or xs i d) (drop (i + 1) xs) (s.here d)
+        ∙ find_front (get_or xs i d) (drop (i + 1) xs) (s.here d)
 
     take_found : (d : Keyed V) → take_out k xs ≡ remove xs i
     take_found d =
         ap (take_out k) (cut d)
         ∙ take_past (take i xs) (get_or xs i d ∷ drop (i + 1) xs) s.before
-        ∙ ap (λ q. take i xs ++ q) (take-front (get_or xs i d) (drop (i + 1) xs) (s.here d) ∙ ap (λ j. drop j xs) (add-one i))
+        ∙ ap (λ q. take i xs ++ q) (take_front (get_or xs i d) (drop (i + 1) xs) (s.here d) ∙ ap (λ j. drop j xs) (add-one i))
 
     pub put_stands : (r : Keyed V) → r.key ≡ k → put_in r xs ≡ set xs i r
     put_stands r f =
@@ -83,44 +83,44 @@ module _ {V : Type 0} (k : ℕ) where
     above_from [] h = tt
     above_from (q ∷ qs) h = h q (omega arith)
 
-    rest-above : Begins-above (drop i xs)
-    rest-above =
+    rest_above : Begins-above (drop i xs)
+    rest_above =
         above_from (drop i xs) (λ d h.
         let n = length-drop i xs in
         subst (λ (y : Keyed V). k < y.key) (sym (get_or-drop i xs 0 d ∙ ap (λ j. get_or xs j d) (add-zero i))) (l.here d (omega arith)))
 
-    pub find-lacks : find_in k xs ≡ None
-    find-lacks = ap (find_in k) (sym (take-append-drop i xs)) ∙ find_past (take i xs) (drop i xs) l.before ∙ find-beyond (drop i xs) rest-above
+    pub find_lacks : find_in k xs ≡ None
+    find_lacks = ap (find_in k) (sym (take-append-drop i xs)) ∙ find_past (take i xs) (drop i xs) l.before ∙ find_beyond (drop i xs) rest_above
 
-    pub take-lacks : take_out k xs ≡ xs
-    take-lacks =
+    pub take_lacks : take_out k xs ≡ xs
+    take_lacks =
         ap (take_out k) (sym (take-append-drop i xs))
         ∙ take_past (take i xs) (drop i xs) l.before
-        ∙ ap (λ q. take i xs ++ q) (take_beyond (drop i xs) rest-above)
+        ∙ ap (λ q. take i xs ++ q) (take_beyond (drop i xs) rest_above)
         ∙ take-append-drop i xs
 
     pub put_lacks : (r : Keyed V) → r.key ≡ k → put_in r xs ≡ insert xs i r
     put_lacks r f =
         ap (put_in r) (sym (take-append-drop i xs))
         ∙ put_past r f (take i xs) (drop i xs) l.before
-        ∙ ap (λ q. take i xs ++ q) (put_beyond r (drop i xs) f rest-above)
+        ∙ ap (λ q. take i xs ++ q) (put_beyond r (drop i xs) f rest_above)
 
   pub holds_stands : (xs : List (Keyed V)) (i : ℕ) → Stands k xs i → is_some (find_in k xs) ≡ true
   holds_stands [] i s = absurd (omega (arith, s.within))
-  holds_stands (x ∷ xs) i s = ap is_some (find-stands (x ∷ xs) i s x)
+  holds_stands (x ∷ xs) i s = ap is_some (find_stands (x ∷ xs) i s x)
 
-  pub take-stands : (xs : List (Keyed V)) (i : ℕ) → Stands k xs i → take_out k xs ≡ remove xs i
-  take-stands [] i s = absurd (omega (arith, s.within))
-  take-stands (x ∷ xs) i s = take_found (x ∷ xs) i s x
+  pub take_stands : (xs : List (Keyed V)) (i : ℕ) → Stands k xs i → take_out k xs ≡ remove xs i
+  take_stands [] i s = absurd (omega (arith, s.within))
+  take_stands (x ∷ xs) i s = take_found (x ∷ xs) i s x
 
 -- what a put answers where its key stands, and where it lacks
 module _ {V : Type 0} (n : ℕ) (r : Keyed V) (xs : List (Keyed V)) (i : ℕ) where
   pub put_replaces : Stands r.key xs i → put_answer n r xs ≡ Ok Replaced
-  put_replaces s = cond-true _ _ _ (ap is_some (find-stands r.key xs i s r))
+  put_replaces s = cond-true _ _ _ (ap is_some (find_stands r.key xs i s r))
 
   module _ (l : Lacks r.key xs i) where
     none : is_some (find_in r.key xs) ≡ false
-    none = ap is_some (find-lacks r.key xs i l)
+    none = ap is_some (find_lacks r.key xs i l)
 
     pub put_adds : length xs < n → put_answer n r xs ≡ Ok Added
     put_adds h = cond-false _ _ _ none ∙ cond-true _ _ _ (lt-ltb (length xs) n h)

@@ -8,8 +8,8 @@ use Rattle.table.proofs.Laws.{find-put_other, find-put_same, length-put, length-
 use Rattle.table.proofs.Order.{find-take_other, find-take_same}
 use Rattle.table.proofs.Sums.{sum-put, sum-take}
 
-pub after-put : {V : Type 0} (r : Keyed V) (xs ys : List (Keyed V)) → ys ≡ put_in r xs → AfterPut r xs ys
-after-put r xs ys so = subst (AfterPut r xs) (sym so) record {
+pub after_put : {V : Type 0} (r : Keyed V) (xs ys : List (Keyed V)) → ys ≡ put_in r xs → AfterPut r xs ys
+after_put r xs ys so = subst (AfterPut r xs) (sym so) record {
   same = find-put_same r xs;
   others = λ k ne. find-put_other r k xs ne;
   count = length-put r xs;
@@ -17,8 +17,8 @@ after-put r xs ys so = subst (AfterPut r xs) (sym so) record {
   sum = λ f. sum-put f r xs;
 }
 
-pub after-take : {V : Type 0} (k : ℕ) (xs ys : List (Keyed V)) → rising xs ≡ true → ys ≡ take_out k xs → AfterTake k xs ys
-after-take k xs ys up so = subst (AfterTake k xs) (sym so) record {
+pub after_take : {V : Type 0} (k : ℕ) (xs ys : List (Keyed V)) → rising xs ≡ true → ys ≡ take_out k xs → AfterTake k xs ys
+after_take k xs ys up so = subst (AfterTake k xs) (sym so) record {
   gone = find-take_same k xs up;
   others = λ j ne. find-take_other k j xs up ne;
   count = length-take k xs;

@@ -9,15 +9,15 @@ use Rattle.table.specs.Records.{each_value, revalued, set_in}
 use Rattle.table.specs.Rising.{above, rising}
 
 module _ {V : Type 0} (v : V) where
-  above-set : (k i : ℕ) (xs : List (Keyed V)) → above k (set_in i v xs) ≡ above k xs
-  above-set k i [] = refl
-  above-set k zero (x ∷ xs) = refl
-  above-set k (suc i) (x ∷ xs) = ap (λ b. ltb k x.key && b) (above-set k i xs)
+  above_set : (k i : ℕ) (xs : List (Keyed V)) → above k (set_in i v xs) ≡ above k xs
+  above_set k i [] = refl
+  above_set k zero (x ∷ xs) = refl
+  above_set k (suc i) (x ∷ xs) = ap (λ b. ltb k x.key && b) (above_set k i xs)
 
   pub rising-set : (i : ℕ) (xs : List (Keyed V)) → rising (set_in i v xs) ≡ rising xs
   rising-set i [] = refl
   rising-set zero (x ∷ xs) = refl
-  rising-set (suc i) (x ∷ xs) = ap (λ b. b && rising (set_in i v xs)) (above-set x.key i xs) ∙ ap (λ b. above x.key xs && b) (rising-set i xs)
+  rising-set (suc i) (x ∷ xs) = ap (λ b. b && rising (set_in i v xs)) (above_set x.key i xs) ∙ ap (λ b. above x.key xs && b) (rising-set i xs)
 
   pub length-set_in : (i : ℕ) (xs : List (Keyed V)) → length (set_in i v xs) ≡ length xs
   length-set_in i [] = refl
@@ -31,16 +31,16 @@ module _ {V : Type 0} (v : V) where
   set_value (x ∷ xs) (suc i) d h = ap (λ ys. x ∷ ys) (set_value xs i d (omega arith))
 
   -- past the records nothing is set
-  pub set-in_past : (i : ℕ) (xs : List (Keyed V)) → length xs ≤ i → set_in i v xs ≡ xs
-  set-in_past i [] h = refl
-  set-in_past zero (x ∷ xs) h = absurd (omega arith)
-  set-in_past (suc i) (x ∷ xs) h = ap (λ ys. x ∷ ys) (set-in_past i xs (omega arith))
+  pub set_in_past : (i : ℕ) (xs : List (Keyed V)) → length xs ≤ i → set_in i v xs ≡ xs
+  set_in_past i [] h = refl
+  set_in_past zero (x ∷ xs) h = absurd (omega arith)
+  set_in_past (suc i) (x ∷ xs) h = ap (λ ys. x ∷ ys) (set_in_past i xs (omega arith))
 
   -- a value set where the record a stands
-  pub set-in_nth : (i : ℕ) (xs : List (Keyed V)) (a : Keyed V) → slice_get xs i ≡ Some a → set_in i v xs ≡ set xs i (record { key = a.key; value = v })
-  set-in_nth i [] a e = refl
-  set-in_nth zero (x ∷ xs) a e = let same : x ≡ a = cc in ap (λ (y : Keyed V). record { key = y.key; value = v } ∷ xs) same
-  set-in_nth (suc i) (x ∷ xs) a e = ap (λ ys. x ∷ ys) (set-in_nth i xs a e)
+  pub set_in_nth : (i : ℕ) (xs : List (Keyed V)) (a : Keyed V) → slice_get xs i ≡ Some a → set_in i v xs ≡ set xs i (record { key = a.key; value = v })
+  set_in_nth i [] a e = refl
+  set_in_nth zero (x ∷ xs) a e = let same : x ≡ a = cc in ap (λ (y : Keyed V). record { key = y.key; value = v } ∷ xs) same
+  set_in_nth (suc i) (x ∷ xs) a e = ap (λ ys. x ∷ ys) (set_in_nth i xs a e)
 
 -- a loop that sets f of each value, place by place: `cur` is the list with the places below i done
 module _ {V : Type 0} (f : V → V) (xs cur : List (Keyed V)) (i : ℕ) (below : i < length xs) (so : cur ≡ each_value f (take i xs) ++ drop i xs) where
@@ -59,7 +59,7 @@ module _ {V : Type 0} (f : V → V) (xs cur : List (Keyed V)) (i : ℕ) (below :
   each_value_more a here =
       let at = each_value_there a in
       let read : a ≡ get_or cur i a = cc in
-      set-in_nth (f a.value) i cur a here ∙ map_over_more (revalued f) xs cur i a below so read
+      set_in_nth (f a.value) i cur a here ∙ map_over_more (revalued f) xs cur i a below so read
 
 -- once every place is done
 pub each_value_all : {V : Type 0} (f : V → V) (xs : List (Keyed V)) (i : ℕ) → length xs ≤ i → each_value f (take i xs) ++ drop i xs ≡ each_value f xs

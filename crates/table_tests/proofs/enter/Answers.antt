@@ -2,7 +2,7 @@ use Rattle.std.proofs.Common.{◌≡◌, ◌≤◌, min, true, length, Ok, sym, 
 use Rattle.std.proofs.lemmas.Bool.Decides.{nat_tests}
 use Rattle.table.specs.Records.{put_in}
 use Rattle.table.specs.View.{laid, memory, place_for, records, room}
-use Rattle.table.proofs.Laws.{length-put, place-within, put_lands}
+use Rattle.table.proofs.Laws.{length-put, place_within, put_lands}
 use Rattle.table.proofs.Memory.{laid-laid}
 use Rattle.table_tests.specs.Entering.{accounts_answer}
 use Rattle.table_tests.proofs.Seats.{buyer_seated, seller_seated}
@@ -21,16 +21,16 @@ returns c =
     let t3 = c.put-3.new.self in
     let ok : Ok tt ≡ accounts_answer places b s (records a) = c.in_ok-check_accounts.ensures in
     let third : true ≡ place_for (min (room d) limit) c.args.trade.key (records d) = c.if-not-has_place.ensures in
-    let seat-b = place-within (room a) limit b.key (records a) (buyer_seated places b s (records a) ok) in
-    let seat-s = place-within (room a) limit s.key (put_in b (records a)) (seller_seated places b s (records a) ok) in
-    let one = put_lands (room a) b (records a) (records t1) c.put.result c.put.ensures.answer c.put.ensures.records seat-b in
-    let seat = ap (λ n. place_for n s.key (records t1)) c.put.ensures.room ∙ ap (place_for (room a) s.key) one ∙ seat-s in
+    let seat_b = place_within (room a) limit b.key (records a) (buyer_seated places b s (records a) ok) in
+    let seat_s = place_within (room a) limit s.key (put_in b (records a)) (seller_seated places b s (records a) ok) in
+    let one = put_lands (room a) b (records a) (records t1) c.put.result c.put.ensures.answer c.put.ensures.records seat_b in
+    let seat = ap (λ n. place_for n s.key (records t1)) c.put.ensures.room ∙ ap (place_for (room a) s.key) one ∙ seat_s in
     let two = put_lands (room t1) s (records t1) (records t2) c.put-2.result c.put-2.ensures.answer c.put-2.ensures.records seat in
     let more : length (records t1) ≤ length (records t2) = let l = length-put s (records t1) in let e = ap length two in omega arith in
     record {
       answer = grind (arith, nat_tests);
       accounts = two ∙ ap (put_in s) one;
-      trades = put_lands (room d) c.args.trade (records d) (records t3) c.put-3.result c.put-3.ensures.answer c.put-3.ensures.records (place-within (room d) limit c.args.trade.key (records d) (sym third));
+      trades = put_lands (room d) c.args.trade (records d) (records t3) c.put-3.result c.put-3.ensures.answer c.put-3.ensures.records (place_within (room d) limit c.args.trade.key (records d) (sym third));
       memories = (
         c.put-2.ensures.memory ∙ ap (laid (records t2)) c.put.ensures.memory ∙ laid-laid (records t1) (records t2) (memory a) more,
         c.put-3.ensures.memory,

@@ -4,8 +4,8 @@ use Rattle.std.proofs.lemmas.List.{take_all, take_more}
 use Rattle.std.proofs.lemmas.Int.{to_z-of_z}
 use Rattle.ledger.specs.Meaning.{Meaning, meaning}
 use Rattle.ledger.specs.Payments.{due}
-use Rattle.ledger.proofs.Money.{sum-shown}
-use Rattle.ledger.proofs.Paid.{within-at, due-here, due-other}
+use Rattle.ledger.proofs.Money.{sum_shown}
+use Rattle.ledger.proofs.Paid.{within_at, due_here, due_other}
 use Rattle.ledger.proofs.paying.balance_after.Goals as goal
 use Rattle.ledger.proofs.paying.balance_after.Goals.{then-payment-account, else-payment-account}
 
@@ -17,9 +17,9 @@ overflow_add-balance g c =
     let i = c.loop-payment.payment-index in
     let p = get_or ps i (record { account = 0; amount = pos 0 }) in
     let f : SFits w64 p.amount = search rules in
-    let w = within-at m a (g.L.CashLedger.bounded.lowest c.args.ledger.now) (g.L.CashLedger.bounded.highest c.args.ledger.now) ps (i + 1) c.requires (g.L.BalanceReader.sound.within c.args.ledger.now a) in
-    let d = ap (λ q. due q a) (take_more ps i _ c.loop-payment-test.true) ∙ due-here (take i ps) p a c.if-payment-account.true in
-    (sum-shown _ (m.balance a) (due (take i ps) a) _ p.amount c.loop-payment.invariant d f w).0
+    let w = within_at m a (g.L.CashLedger.bounded.lowest c.args.ledger.now) (g.L.CashLedger.bounded.highest c.args.ledger.now) ps (i + 1) c.requires (g.L.BalanceReader.sound.within c.args.ledger.now a) in
+    let d = ap (λ q. due q a) (take_more ps i _ c.loop-payment-test.true) ∙ due_here (take i ps) p a c.if-payment-account.true in
+    (sum_shown _ (m.balance a) (due (take i ps) a) _ p.amount c.loop-payment.invariant d f w).0
 
 pub loop-payment-init : goal.loop-payment-init
 loop-payment-init g c =
@@ -34,10 +34,10 @@ loop-payment-preserved g c =
     let i = c.loop-payment.payment-index in
     let p = get_or ps i (record { account = 0; amount = pos 0 }) in
     let more = take_more ps i (record { account = 0; amount = pos 0 }) c.loop-payment-test.true in
-    let w = within-at m a (g.L.CashLedger.bounded.lowest c.args.ledger.now) (g.L.CashLedger.bounded.highest c.args.ledger.now) ps (i + 1) c.requires (g.L.BalanceReader.sound.within c.args.ledger.now a) in
+    let w = within_at m a (g.L.CashLedger.bounded.lowest c.args.ledger.now) (g.L.CashLedger.bounded.highest c.args.ledger.now) ps (i + 1) c.requires (g.L.BalanceReader.sound.within c.args.ledger.now a) in
     elim c.if-payment-account.branch [
-      | then-payment-account t ↦ (let f : SFits w64 p.amount = search rules in t.balance-is ∙ (sum-shown _ (m.balance a) (due (take i ps) a) _ p.amount c.loop-payment.invariant (ap (λ q. due q a) more ∙ due-here (take i ps) p a t.if-payment-account.true) f w).1)
-      | else-payment-account t ↦ t.balance-is ∙ c.loop-payment.invariant ∙ ap (λ q. m.balance a +ℤ q) (sym (ap (λ q. due q a) more ∙ due-other (take i ps) p a t.if-payment-account.false))
+      | then-payment-account t ↦ (let f : SFits w64 p.amount = search rules in t.balance-is ∙ (sum_shown _ (m.balance a) (due (take i ps) a) _ p.amount c.loop-payment.invariant (ap (λ q. due q a) more ∙ due_here (take i ps) p a t.if-payment-account.true) f w).1)
+      | else-payment-account t ↦ t.balance-is ∙ c.loop-payment.invariant ∙ ap (λ q. m.balance a +ℤ q) (sym (ap (λ q. due q a) more ∙ due_other (take i ps) p a t.if-payment-account.false))
     ]
 
 pub returns : goal.returns

@@ -16,8 +16,8 @@ returns-in_err-pay g c =
     let ps = c.args.payments.now in
     let p = get_or ps c.loop-payment.payment-index (record { account = 0; amount = pos 0 }) in
     let f : SFits w64 p.amount = search rules in
-    let open-still = never_refused (meaning g.L.BalanceReader.reading g.L.CashLedger.terms c.args.ledger.now) ps c.requires c.loop-payment.payment-index _ c.loop-payment-test.true _ c.loop-payment.invariant (sym c.is_zero.ensures ∙ c.if-not-is_zero.true) in
-    clash _ _ open-still (rw (to_z-of_z w64 p.amount f) at c.in_err-pay.ensures.0)
+    let open_still = never_refused (meaning g.L.BalanceReader.reading g.L.CashLedger.terms c.args.ledger.now) ps c.requires c.loop-payment.payment-index _ c.loop-payment-test.true _ c.loop-payment.invariant (sym c.is_zero.ensures ∙ c.if-not-is_zero.true) in
+    clash _ _ open_still (rw (to_z-of_z w64 p.amount f) at c.in_err-pay.ensures.0)
 
 pub loop-payment-preserved : goal.loop-payment-preserved
 loop-payment-preserved g c =

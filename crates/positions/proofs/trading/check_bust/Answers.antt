@@ -20,15 +20,15 @@ returns c =
     let ys = changed t.buyer (neg_ℤ (pos t.units)) (neg_ℤ (cost_of t)) xs in
     let buyer_there : c.is_some-buyer_there.result ≡ is_there t.buyer xs = c.is_some-buyer_there.ensures ∙ ap is_some c.find.ensures in
     let seller_there : c.is_some-seller_there.result ≡ is_there t.seller xs = c.is_some-seller_there.ensures ∙ ap is_some c.find-2.ensures in
-    let buyer-units = c.units_hold.ensures ∙ ap (λ z. units_hold z position) units ∙ ap (units_hold (neg_ℤ (pos t.units))) is in
-    let seller-units =
+    let buyer_units = c.units_hold.ensures ∙ ap (λ z. units_hold z position) units ∙ ap (units_hold (neg_ℤ (pos t.units))) is in
+    let seller_units =
     c.units_hold-2.ensures ∙ seller.units
     ∙ both (λ q v. units_hold (neg_ℤ q) (account_of t.seller (changed t.buyer q v xs))) units cost
     ∙ ap (λ z. units_hold z (account_of t.seller ys)) (neg_ℤ-neg_ℤ (pos t.units)) in
     c.verdict_of.ensures
     ∙ ap (λ cs. verdict tt (first_fault cs))
-    (stands c.new.ensures (ap (λ b. not b || c.units_hold.result) buyer_there ∙ ap (λ b. not (is_there t.buyer xs) || b) buyer-units)
-    (stands c.new-2.ensures (ap (λ b. not b || c.units_hold-2.result) seller_there ∙ ap (λ b. not (is_there t.seller xs) || b) seller-units)
+    (stands c.new.ensures (ap (λ b. not b || c.units_hold.result) buyer_there ∙ ap (λ b. not (is_there t.buyer xs) || b) buyer_units)
+    (stands c.new-2.ensures (ap (λ b. not b || c.units_hold-2.result) seller_there ∙ ap (λ b. not (is_there t.seller xs) || b) seller_units)
     (stands c.new-3.ensures (ap (λ b. b && c.is_some-seller_there.result) buyer_there ∙ ap (λ b. is_there t.buyer xs && b) seller_there)
     (stands c.new-4.ensures (c.cost_holds.ensures ∙ ap (λ z. cost_holds z position) cost ∙ ap (cost_holds (neg_ℤ (cost_of t))) is)
     (stands c.new-5.ensures

@@ -2,7 +2,7 @@ use Rattle.std.proofs.Common.{map, sym, ap, ◌∙◌}
 use Rattle.std.proofs.lemmas.List.{take_all}
 use Rattle.faults.specs.Checks.{first_fault, verdict}
 use Rattle.ledger.specs.Meaning.{Meaning, meaning}
-use Rattle.ledger.proofs.Checks.{map_more, map-fails}
+use Rattle.ledger.proofs.Checks.{map_more, map_fails}
 use Rattle.settlement.specs.Paying.{is_known}
 use Rattle.settlement.proofs.checking.check_known.Goals as goal
 
@@ -10,7 +10,7 @@ pub returns-then-not-can_be_paid : goal.returns-then-not-can_be_paid
 unfolding is_known
 returns-then-not-can_be_paid g c =
     let m : Meaning = meaning g.L.BalanceReader.reading g.L.CashLedger.terms c.args.ledger.now in
-    ap (verdict tt) (sym (map-fails (is_known m c.args.last.value c.args.price.value) c.args.records.now c.loop-record.record-index _ c.loop-record-test.true c.loop-record.invariant (sym c.if-not-can_be_paid.ensures)))
+    ap (verdict tt) (sym (map_fails (is_known m c.args.last.value c.args.price.value) c.args.records.now c.loop-record.record-index _ c.loop-record-test.true c.loop-record.invariant (sym c.if-not-can_be_paid.ensures)))
 
 pub loop-record-preserved : goal.loop-record-preserved
 unfolding is_known

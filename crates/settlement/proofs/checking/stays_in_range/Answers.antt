@@ -1,7 +1,7 @@
 use Rattle.std.proofs.Common.{◌≡◌, ℤ, ap, ◌∙◌, w64, SFits, rules}
 use Rattle.ledger.specs.declared.payment.Payment.{Payment}
 use Rattle.ledger.specs.Limits.{is_zero, reaches}
-use Rattle.ledger.proofs.Money.{reaches-back}
+use Rattle.ledger.proofs.Money.{reaches_back}
 use Rattle.settlement.proofs.Owed.{range_shown}
 use Rattle.settlement.proofs.checking.stays_in_range.Goals as goal
 
@@ -18,6 +18,6 @@ returns g c =
     let fx : SFits w64 p.amount = search rules in
     let reached =
     c.is_in_range-reaches.ensures
-    ∙ reaches-back _ _ _ _ fl fh fb fx
+    ∙ reaches_back _ _ _ _ fl fh fb fx
     ∙ same _ _ _ _ _ _ _ _ c.lowest_balance-lowest.ensures c.highest_balance-highest.ensures c.balance_of-balance.ensures amount in
     range_shown _ _ _ _ c.requires _ _ _ c.has_cost_within.ensures (c.is_zero.ensures ∙ ap is_zero amount) reached

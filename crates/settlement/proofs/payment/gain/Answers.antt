@@ -1,11 +1,11 @@
 use Rattle.std.proofs.Common.{◌≤◌, ℤ, ◌-ℤ◌, ◌*ℤ◌, nat_abs, arith, w64, SFits}
 use Rattle.std.proofs.lemmas.Int.{to_z-of_z}
-use Rattle.settlement.proofs.Ring.{difference_most, product-most}
+use Rattle.settlement.proofs.Ring.{difference_most, product_most}
 use Rattle.settlement.proofs.Casts.{fits}
 use Rattle.settlement.proofs.payment.gain.Goals as goal
 
 size : (u f t : ℤ) → nat_abs u ≤ 125000 → nat_abs f ≤ 3400000000 → nat_abs t ≤ 3400000000 → nat_abs (u *ℤ (t -ℤ f)) ≤ 1000000000000000
-size u f t hu hf ht = let s = product-most u (t -ℤ f) 125000 6800000000 hu (difference_most t f 3400000000 3400000000 ht hf) in omega arith
+size u f t hu hf ht = let s = product_most u (t -ℤ f) 125000 6800000000 hu (difference_most t f 3400000000 3400000000 ht hf) in omega arith
 
 pub overflow_mul-result : goal.overflow_mul-result
 overflow_mul-result c =

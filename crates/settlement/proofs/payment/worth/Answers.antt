@@ -1,11 +1,11 @@
 use Rattle.std.proofs.Common.{◌≤◌, ℤ, ◌-ℤ◌, ◌*ℤ◌, nat_abs, arith, w64, SFits}
 use Rattle.std.proofs.lemmas.Int.{to_z-of_z}
-use Rattle.settlement.proofs.Ring.{difference_most, product-most}
+use Rattle.settlement.proofs.Ring.{difference_most, product_most}
 use Rattle.settlement.proofs.Casts.{fits}
 use Rattle.settlement.proofs.payment.worth.Goals as goal
 
 size : (u p F : ℤ) → nat_abs u ≤ 125000 → nat_abs p ≤ 125000 → nat_abs F ≤ 3400000000 → nat_abs ((u -ℤ p) *ℤ F) ≤ 1000000000000000
-size u p F hu hp hF = let s = product-most (u -ℤ p) F 250000 3400000000 (difference_most u p 125000 125000 hu hp) hF in omega arith
+size u p F hu hp hF = let s = product_most (u -ℤ p) F 250000 3400000000 (difference_most u p 125000 125000 hu hp) hF in omega arith
 
 pub overflow_mul-result : goal.overflow_mul-result
 overflow_mul-result c =

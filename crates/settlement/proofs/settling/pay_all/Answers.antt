@@ -18,8 +18,8 @@ returns-in_err-pay g c =
     let n : Meaning = meaning g.L.BalanceReader.reading g.L.CashLedger.terms c.loop-record.ledger in
     let p = c.payment_to-payment.result in
     let fits : SFits w64 p.amount = search rules in
-    let open-still = still_open (owed c.args.last.value c.args.price.value) c.args.records.now c.loop-record.record-index _ c.loop-record-test.true p c.payment_to-payment.ensures _ n c.loop-record.invariant (sym c.is_zero.ensures ∙ c.if-not-is_zero.true) c.requires in
-    clash _ _ open-still (subst (λ amount. fault_of n p.account amount ≡ Some c.in_err-pay.field-0.0) (to_z-of_z w64 p.amount fits) c.in_err-pay.ensures.0)
+    let open_still = still_open (owed c.args.last.value c.args.price.value) c.args.records.now c.loop-record.record-index _ c.loop-record-test.true p c.payment_to-payment.ensures _ n c.loop-record.invariant (sym c.is_zero.ensures ∙ c.if-not-is_zero.true) c.requires in
+    clash _ _ open_still (subst (λ amount. fault_of n p.account amount ≡ Some c.in_err-pay.field-0.0) (to_z-of_z w64 p.amount fits) c.in_err-pay.ensures.0)
 
 pub loop-record-preserved : goal.loop-record-preserved
 loop-record-preserved g c =

@@ -1,7 +1,7 @@
 use Rattle.std.proofs.Common.{refl}
 use Rattle.balances.specs.Accounts.{listed}
 use Rattle.ledger.specs.Meaning.{Meaning, meaning}
-use Rattle.cents.proofs.Layers.{new-balance, new-known}
+use Rattle.cents.proofs.Layers.{new_balance, new_known}
 use Rattle.cents.proofs.layer.Cents.new.Goals as goal
 
 pub returns : goal.returns
@@ -13,8 +13,8 @@ returns g c =
     record {
       kept = refl;
       layer = record {
-        known = new-known m (listed t.accounts) c.args.list.now t.rows _ refl e.rows e.accounts w;
-        balance = new-balance m (listed t.accounts) c.args.list.now t.rows _ refl e.rows e.accounts w;
+        known = new_known m (listed t.accounts) c.args.list.now t.rows _ refl e.rows e.accounts w;
+        balance = new_balance m (listed t.accounts) c.args.list.now t.rows _ refl e.rows e.accounts w;
         capacity = refl;
         lowest = refl;
         highest = refl;

@@ -1,5 +1,5 @@
 use Rattle.std.proofs.Common.{refl, ◌∙◌, arith}
-use Rattle.journal.proofs.Journals.{both_shown, new-balance, new-known, new-lines, spans_all, spans-none}
+use Rattle.journal.proofs.Journals.{both_shown, new_balance, new_known, new_lines, spans_all, spans_none}
 use Rattle.journal.proofs.journal.Journal.new.Goals as goal
 
 pub returns-then-is_admitted : goal.returns-then-is_admitted
@@ -7,9 +7,9 @@ returns-then-is_admitted c =
     let test = both_shown c.args.first c.args.last _ _ _ c.is_admitted.ensures c.is_admitted-2.ensures c.if-is_admitted.true in
     record {
       words = refl;
-      lines = new-lines _;
-      known = λ a. new-known _ _ _ a ∙ spans_all c.args.first c.args.last a test;
-      balance = λ a. new-balance _ _ _ a;
+      lines = new_lines _;
+      known = λ a. new_known _ _ _ a ∙ spans_all c.args.first c.args.last a test;
+      balance = λ a. new_balance _ _ _ a;
       capacity = omega arith;
       lent = refl;
     }
@@ -19,9 +19,9 @@ returns c =
     let test = both_shown c.args.first c.args.last _ _ _ c.is_admitted.ensures c.is_admitted-2.ensures c.if-is_admitted.false in
     record {
       words = refl;
-      lines = new-lines _;
-      known = λ a. new-known _ _ _ a ∙ spans-none c.args.first c.args.last a test;
-      balance = λ a. new-balance _ _ _ a;
+      lines = new_lines _;
+      known = λ a. new_known _ _ _ a ∙ spans_none c.args.first c.args.last a test;
+      balance = λ a. new_balance _ _ _ a;
       capacity = omega arith;
       lent = refl;
     }

@@ -7,12 +7,12 @@ use Rattle.ledger.proofs.Money.{back, back_within}
 use Rattle.ledger.proofs.Totals.{if_inside, if_outside}
 use Rattle.journal.specs.Lines.{lines_in}
 use Rattle.journal.proofs.Lines.{lines_none}
-use Rattle.journal.proofs.Journals.{above-limit, below-limit, inside-limits, spans-shown, sum-128, sum_more, total-in, total-out}
+use Rattle.journal.proofs.Journals.{above_limit, below_limit, inside_limits, spans_shown, sum_128, sum_more, total_in, total_out}
 use Rattle.journal.proofs.journal.Journal.total.Goals as goal
 use Rattle.journal.proofs.journal.Journal.total.Goals.{then-sum-via-then-sum, then-sum-via-else-sum+then-sum-2}
 
 pub returns-then-not-spans : goal.returns-then-not-spans
-returns-then-not-spans c = sym (total-out _ _ _ _ _ (spans-shown _ _ _ _ _ c.is_admitted.ensures c.if-not-spans.true))
+returns-then-not-spans c = sym (total_out _ _ _ _ _ (spans_shown _ _ _ _ _ c.is_admitted.ensures c.if-not-spans.true))
 
 pub loop-i-init : goal.loop-i-init
 loop-i-init c = (sym (ap (λ q. due q c.args.account) (lines_none _)), omega arith)
@@ -23,7 +23,7 @@ loop-i-preserved c =
     let i = c.loop-i.i in
     let n : length ws < 18446744073709551616 = search rules in
     let f : SFits w64 c.pays.result = search rules in
-    let r = sum-128 _ c.loop-i.sum c.pays.result i c.loop-i.sum-is f (subst (λ z. nat_abs z ≤ i * 9223372036854775808) c.loop-i.sum-is c.loop-i.invariant.1) (omega arith) in (
+    let r = sum_128 _ c.loop-i.sum c.pays.result i c.loop-i.sum-is f (subst (λ z. nat_abs z ≤ i * 9223372036854775808) c.loop-i.sum-is c.loop-i.invariant.1) (omega arith) in (
       r.0 ∙ ap (λ z. z +ℤ c.pays.result) (sym c.loop-i.sum-is ∙ c.loop-i.invariant.0) ∙ ap (λ z. due (lines_in ws i) c.args.account +ℤ z) c.pays.ensures ∙ sym (sum_more ws i c.args.account),
       subst (λ z. nat_abs z ≤ (i + 1) * 9223372036854775808) (sym r.0) r.1,
     )
@@ -33,11 +33,11 @@ returns-then-sum c =
     let s = c.args.self.now in
     let ws = s.words.now in
     let e : c.loop-i.i ≡ min s.lines (length ws / 4) = omega arith in
-    let t = total-in ws s.lines s.first s.last c.args.account (spans-shown _ _ _ _ _ c.is_admitted.ensures c.if-not-spans.false) in
+    let t = total_in ws s.lines s.first s.last c.args.account (spans_shown _ _ _ _ _ c.is_admitted.ensures c.if-not-spans.false) in
     let sum = sym c.loop-i.sum-is ∙ c.loop-i.invariant.0 ∙ ap (λ k. due (lines_in ws k) c.args.account) e in
     let out : farthest_balance < nat_abs c.loop-i.sum = elim c.then-sum.branch [
-      | then-sum-via-then-sum w ↦ below-limit c.loop-i.sum (ap (λ z. lt_z z (negsuc 8999999999999999999)) (sym c.loop-i.sum-is) ∙ w.if-sum.true)
-      | then-sum-via-else-sum+then-sum-2 w ↦ above-limit c.loop-i.sum (ap (lt_z (pos 9000000000000000000)) (sym c.loop-i.sum-is) ∙ w.if-sum-2.true)
+      | then-sum-via-then-sum w ↦ below_limit c.loop-i.sum (ap (λ z. lt_z z (negsuc 8999999999999999999)) (sym c.loop-i.sum-is) ∙ w.if-sum.true)
+      | then-sum-via-else-sum+then-sum-2 w ↦ above_limit c.loop-i.sum (ap (lt_z (pos 9000000000000000000)) (sym c.loop-i.sum-is) ∙ w.if-sum-2.true)
     ] in
     sym (t ∙ ap if_within (sym sum) ∙ if_outside _ out)
 
@@ -46,7 +46,7 @@ returns c =
     let s = c.args.self.now in
     let ws = s.words.now in
     let e : c.loop-i.i ≡ min s.lines (length ws / 4) = omega arith in
-    let t = total-in ws s.lines s.first s.last c.args.account (spans-shown _ _ _ _ _ c.is_admitted.ensures c.if-not-spans.false) in
+    let t = total_in ws s.lines s.first s.last c.args.account (spans_shown _ _ _ _ _ c.is_admitted.ensures c.if-not-spans.false) in
     let sum = sym c.loop-i.sum-is ∙ c.loop-i.invariant.0 ∙ ap (λ k. due (lines_in ws k) c.args.account) e in
-    let w = inside-limits c.loop-i.sum (ap (λ z. lt_z z (negsuc 8999999999999999999)) (sym c.loop-i.sum-is) ∙ c.if-sum.false) (ap (lt_z (pos 9000000000000000000)) (sym c.loop-i.sum-is) ∙ c.if-sum-2.false) in
+    let w = inside_limits c.loop-i.sum (ap (λ z. lt_z z (negsuc 8999999999999999999)) (sym c.loop-i.sum-is) ∙ c.if-sum.false) (ap (lt_z (pos 9000000000000000000)) (sym c.loop-i.sum-is) ∙ c.if-sum-2.false) in
     ap (λ z. Some z) (ap back c.loop-i.sum-is ∙ back_within _ w) ∙ sym (t ∙ ap if_within (sym sum) ∙ if_inside _ w)

@@ -2,7 +2,7 @@ use Rattle.std.proofs.Common.{◌≡◌, pos, ◌+ℤ◌, ◌-ℤ◌, ◌*ℤ◌
 use lib.IntN.{*ℤ_comm}
 use Rattle.prices.specs.Rounding.{nearestℤ}
 use Rattle.prices.proofs.Sized.{passed, passed_most}
-use Rattle.prices.proofs.Ranges.{converted-bearing}
+use Rattle.prices.proofs.Ranges.{converted_bearing}
 use Rattle.prices.proofs.price.Price.converted.Goals as goal
 
 pub times-discounted-requires : goal.times-discounted-requires
@@ -37,6 +37,6 @@ returns c =
     let is : to_z w64 (of_z w64 c.nearest_signed.result) ≡ nearestℤ (c.times-discounted.result -ℤ c.args.accumulated.value *ℤ pos 10000 +ℤ pos 1000000000000000) 100000000 = cc in
     record {
       value = cc;
-      bearing = converted-bearing c.times-discounted.result c.args.accumulated.value (to_z w64 (of_z w64 c.nearest_signed.result)) is
+      bearing = converted_bearing c.times-discounted.result c.args.accumulated.value (to_z w64 (of_z w64 c.nearest_signed.result)) is
           (omega (arith, mul-le-mul most c.args.factor.ok.1));
     }

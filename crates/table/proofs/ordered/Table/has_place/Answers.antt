@@ -3,7 +3,7 @@ use Rattle.std.proofs.lemmas.Bool.{or_left}
 use Rattle.table.specs.Records.{find_in}
 use Rattle.table.specs.View.{records, room}
 use Rattle.table.proofs.Memory.{length-records}
-use Rattle.table.proofs.Places.{find-lacks, holds_stands}
+use Rattle.table.proofs.Places.{find_lacks, holds_stands}
 use Rattle.table.proofs.ordered.Table.has_place.Goals as goal
 
 pub returns-in-Ok : goal.returns-in-Ok
@@ -15,7 +15,7 @@ returns-in-Ok g c =
 pub returns-in-Err : goal.returns-in-Err
 returns-in-Err g c =
     let t = c.args.self.now in
-    let none = find-lacks c.args.key (records t) c.in-Err.field-0 c.in-Err.ensures in
+    let none = find_lacks c.args.key (records t) c.in-Err.field-0 c.in-Err.ensures in
     let places = min (room t) c.args.limit in
     ap (λ m. ltb m c.min.result) (sym (length-records t))
     ∙ ap (ltb (length (records t))) (c.min.ensures ∙ ap (λ n. min n c.args.limit) c.capacity.ensures)

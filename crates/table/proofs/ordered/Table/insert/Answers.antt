@@ -9,9 +9,9 @@ use Rattle.table.specs.Records.{put_in}
 use Rattle.table.specs.Rising.{rising}
 use Rattle.table.specs.View.{memory, records, room}
 use Rattle.table.proofs.Memory.{Lays, length-records, now_memory, now_records, now_sound}
-use Rattle.table.proofs.Order.{rising-fewer, rising-put}
+use Rattle.table.proofs.Order.{rising_fewer, rising-put}
 use Rattle.table.proofs.Places.{put_lacks}
-use Rattle.table.proofs.Shifts.{insert-carries, insert-done, paste-next}
+use Rattle.table.proofs.Shifts.{insert_carries, insert_done, paste_next}
 use Rattle.table.proofs.ordered.Table.insert.Goals as goal
 
 -- once the loop has passed the last record, the new list lies over the memory
@@ -22,7 +22,7 @@ done t place r cur slot lacks free end so =
     let long : length (put_in r (records t)) ≡ t.count + 1 = ap length added ∙ length-insert (records t) place r lacks.within ∙ ap (λ m. m + 1) n in
     record {
       so =
-          insert-done (memory t) t.count place r free (omega (arith, lacks.within)) cur (so ∙ ap (λ j. paste (memory t) place (r ∷ drop place (records t)) (j - place)) end)
+          insert_done (memory t) t.count place r free (omega (arith, lacks.within)) cur (so ∙ ap (λ j. paste (memory t) place (r ∷ drop place (records t)) (j - place)) end)
           ∙ ap (λ xs. xs ++ drop (t.count + 1) (memory t)) (sym added)
           ∙ ap (λ m. put_in r (records t) ++ drop m (memory t)) (sym long);
       counted = long;
@@ -34,7 +34,7 @@ invariant_of-self g c =
     let t = c.args.self.now in
     let n = length-records t in
     let upto : c.args.place ≤ t.count = omega (arith, c.requires.place.within) in
-    record { within = omega (arith, t.within, upto); order = rising-fewer c.args.place t.count (memory t) upto t.order }
+    record { within = omega (arith, t.within, upto); order = rising_fewer c.args.place t.count (memory t) upto t.order }
 
 pub loop-slot-init : goal.loop-slot-init
 loop-slot-init g c =
@@ -69,8 +69,8 @@ loop-slot-preserved g c =
     let x = c.index-self-slot.result in (
       inv.0,
       length-set cur slot c.loop-slot.carried ∙ inv.1,
-      paste-next e at moved cur slot c.loop-slot.carried from (omega arith) (omega arith) inv.2 inv.3,
-      insert-carries e t.count at c.args.incoming free upto slot cur (get_or cur slot x) from (omega arith) inv.2 (ap (get_or cur slot) c.index-self-slot.is),
+      paste_next e at moved cur slot c.loop-slot.carried from (omega arith) (omega arith) inv.2 inv.3,
+      insert_carries e t.count at c.args.incoming free upto slot cur (get_or cur slot x) from (omega arith) inv.2 (ap (get_or cur slot) c.index-self-slot.is),
       inv.4,
     )
 

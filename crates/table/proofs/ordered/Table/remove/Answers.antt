@@ -9,9 +9,9 @@ use Rattle.table.specs.Records.{take_out}
 use Rattle.table.specs.Rising.{rising}
 use Rattle.table.specs.View.{memory, records}
 use Rattle.table.proofs.Memory.{Lays, length-records, now_memory, now_records, now_sound}
-use Rattle.table.proofs.Order.{rising-fewer, rising-take}
-use Rattle.table.proofs.Places.{take-stands}
-use Rattle.table.proofs.Shifts.{paste-next, remove-done, remove-reads}
+use Rattle.table.proofs.Order.{rising_fewer, rising-take}
+use Rattle.table.proofs.Places.{take_stands}
+use Rattle.table.proofs.Shifts.{paste_next, remove_done, remove_reads}
 use Rattle.table.proofs.ordered.Table.remove.Goals as goal
 
 -- once the loop has passed the last record, the list without the key lies over the memory
@@ -20,12 +20,12 @@ done t place key cur slot stands end so =
     let n = length-records t in
     let below : place < t.count = omega (arith, stands.within) in
     let all : t.count - 1 + 1 ≡ t.count = omega arith in
-    let out = take-stands key (records t) place stands in
+    let out = take_stands key (records t) place stands in
     let fewer = length-remove (records t) place stands.within in
     let long : length (take_out key (records t)) ≡ t.count - 1 = ap length out ∙ omega arith in
     record {
       so =
-          remove-done (memory t) t.count place below t.within cur
+          remove_done (memory t) t.count place below t.within cur
           (so ∙ ap (λ j. paste (memory t) place (drop (place + 1) (take j (memory t))) (slot - place)) all ∙ ap (λ j. paste (memory t) place (drop (place + 1) (records t)) (j - place)) end)
           ∙ ap (λ xs. xs ++ drop (t.count - 1) (memory t)) (sym out)
           ∙ ap (λ m. take_out key (records t) ++ drop m (memory t)) (sym long);
@@ -38,7 +38,7 @@ invariant_of-self g c =
     let t = c.args.self.now in
     let n = length-records t in
     let upto : c.args.place ≤ t.count = omega (arith, c.requires.within) in
-    record { within = omega (arith, t.within, upto); order = rising-fewer c.args.place t.count (memory t) upto t.order }
+    record { within = omega (arith, t.within, upto); order = rising_fewer c.args.place t.count (memory t) upto t.order }
 
 pub loop-slot-init : goal.loop-slot-init
 loop-slot-init g c =
@@ -76,8 +76,8 @@ loop-slot-preserved g c =
     let x = get_or cur (slot + 1) c.index-self-slot.result in (
       inv.0,
       length-set cur slot x ∙ inv.1,
-      paste-next e at moved cur slot x from (omega arith) (omega arith) inv.2
-          (remove-reads e m at (omega (arith, c.requires.within)) (omega (arith, t.within)) slot cur x from (omega arith) inv.2 (ap (get_or cur (slot + 1)) c.index-self-slot.is)),
+      paste_next e at moved cur slot x from (omega arith) (omega arith) inv.2
+          (remove_reads e m at (omega (arith, c.requires.within)) (omega (arith, t.within)) slot cur x from (omega arith) inv.2 (ap (get_or cur (slot + 1)) c.index-self-slot.is)),
       inv.3,
     )
 
