@@ -139,12 +139,12 @@ has_folded [] seen a = sym (or_false (has seen a))
 has_folded (x ∷ xs) seen a =
     has_folded xs (add_new seen x) a ∙ ap (λ b. b || has xs a) (has-add seen x a) ∙ sym (or_assoc (has seen a) (eqb x a) (has xs a))
 
-pub has_different : (xs : List ℕ) (a : ℕ) → has (different xs) a ≡ has xs a
+pub has-different : (xs : List ℕ) (a : ℕ) → has (different xs) a ≡ has xs a
 unfolding has
-has_different xs a = has_folded xs [] a
+has-different xs a = has_folded xs [] a
 
 pub on_accepted : (xs ys : List ℕ) → list_fault xs ≡ None → ys ≡ different xs → (a : ℕ) → has ys a ≡ on_list xs a
-on_accepted xs ys none is a = ap (λ t. has t a) is ∙ has_different xs a ∙ ap (λ o. unless o (has xs a)) (sym none)
+on_accepted xs ys none is a = ap (λ t. has t a) is ∙ has-different xs a ∙ ap (λ o. unless o (has xs a)) (sym none)
 
 pub on_refused : (xs ys : List ℕ) (f : Fault) → list_fault xs ≡ Some f → ys ≡ [] → (a : ℕ) → has ys a ≡ on_list xs a
 unfolding has

@@ -15,7 +15,7 @@ use Rattle.ledger.proofs.Paid.{due_here, due_one, due_other, zero_is}
 use Rattle.ledger.proofs.Totals.{if_inside, if_told, none_some}
 use Rattle.journal.specs.Lines.{line_at, lines_in, lines_of, part, written}
 use Rattle.journal.specs.Meaning.{Notes, from_to, journal, journal_total, spans}
-use Rattle.journal.proofs.Lines.{length_written, lines_more, lines_none, lines_written, past_written}
+use Rattle.journal.proofs.Lines.{length-written, lines_more, lines_none, lines_written, past_written}
 
 -- ---- totals
 
@@ -70,7 +70,7 @@ module _ (ws : List ℕ) (n f l : ℕ) (p : Payment) (b : ℤ) (room : n < lengt
   told = total_told ws n f l p.account b known
 
   reach : length (written ws n p) / 4 ≡ length ws / 4
-  reach = ap (λ k. k / 4) (length_written ws n p)
+  reach = ap (λ k. k / 4) (length-written ws n p)
 
   pub lines_after : lines_of (written ws n p) (n + 1) ≡ lines_of ws n ++ (p ∷ [])
   lines_after =

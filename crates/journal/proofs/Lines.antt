@@ -51,9 +51,9 @@ joined u h =
 -- ---- the lines before and at a line that is written
 
 module _ (ws : List ℕ) (n : ℕ) (p : Payment) where
-  pub length_written : length (written ws n p) ≡ length ws
+  pub length-written : length (written ws n p) ≡ length ws
   unfolding written
-  length_written = simp length-set
+  length-written = simp length-set
 
   get_or_before : (i : ℕ) → i < 4 * n → get_or (written ws n p) i 0 ≡ get_or ws i 0
   unfolding written

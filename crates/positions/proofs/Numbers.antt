@@ -3,13 +3,13 @@ use Rattle.std.proofs.Common.{◌≡◌, ℕ, zero, suc, ◌*◌, ◌^◌, ◌<�
 use mir.Syntax.{w128}
 use Rattle.std.proofs.lemmas.Int.{to_z-of_z, to_z_pos, ints}
 
-abs_neg : (n : ℕ) → nat_abs (neg_ℤ (pos n)) ≡ n
-abs_neg zero = refl
-abs_neg (suc n) = refl
+abs-neg : (n : ℕ) → nat_abs (neg_ℤ (pos n)) ≡ n
+abs-neg zero = refl
+abs-neg (suc n) = refl
 
 abs_scaled : (n : ℕ) (z : ℤ) → nat_abs (pos n *ℤ z) ≡ n * nat_abs z
 abs_scaled n (pos m) = refl
-abs_scaled n (negsuc m) = abs_neg (n * suc m)
+abs_scaled n (negsuc m) = abs-neg (n * suc m)
 
 module _ (units : ℕ) (price : ℤ) (few : units < 2 ^ 32) (fits : SFits w64 price) where
   pub small : nat_abs (pos units *ℤ price) < 2 ^ 96

@@ -13,15 +13,15 @@ passed z h = to_z-of_z w64 z (record { sfits = h })
 pub passed_most : (z : ℤ) (n : ℕ) → mag z < 2 ^ 63 → nat_abs z ≤ n → nat_abs (read z) ≤ n
 passed_most z n h k = rw (passed z h) k
 
-abs_neg : (z : ℤ) → nat_abs (neg_ℤ z) ≡ nat_abs z
-abs_neg (pos zero) = refl
-abs_neg (pos (suc n)) = refl
-abs_neg (negsuc n) = refl
+abs-neg : (z : ℤ) → nat_abs (neg_ℤ z) ≡ nat_abs z
+abs-neg (pos zero) = refl
+abs-neg (pos (suc n)) = refl
+abs-neg (negsuc n) = refl
 
 pub abs-mul : (a b : ℤ) → nat_abs (a *ℤ b) ≡ nat_abs a * nat_abs b
 abs-mul (pos a) (pos b) = refl
-abs-mul (pos a) (negsuc b) = abs_neg (pos (a * suc b))
-abs-mul (negsuc a) (pos b) = abs_neg (pos (suc a * b))
+abs-mul (pos a) (negsuc b) = abs-neg (pos (a * suc b))
+abs-mul (negsuc a) (pos b) = abs-neg (pos (suc a * b))
 abs-mul (negsuc a) (negsuc b) = refl
 
 abs-add : (a b : ℤ) → nat_abs (a +ℤ b) ≤ nat_abs a + nat_abs b
@@ -64,7 +64,7 @@ is_plus {x} {y} {z} {u} p q = record {
 pub is_minus : {x y z u : ℤ} {n m : ℕ} → Is x z n → Is y u m → Is (x -ℤ y) (z -ℤ u) (n + m)
 is_minus {x} {y} {z} {u} p q = record {
   is = ap (λ (v : ℤ). v -ℤ y) p.is ∙ ap (λ (v : ℤ). z -ℤ v) q.is;
-  size = omega (arith, abs-add z (neg_ℤ u), abs_neg u, p.size, q.size);
+  size = omega (arith, abs-add z (neg_ℤ u), abs-neg u, p.size, q.size);
 }
 
 pub is_times : {x y z u : ℤ} {n m : ℕ} → Is x z n → Is y u m → Is (x *ℤ y) (z *ℤ u) (n * m)

@@ -6,7 +6,7 @@ use Rattle.ledger.specs.Meaning.{Meaning}
 use Rattle.table.specs.declared.keyed.Keyed.{Keyed}
 use Rattle.positions.specs.declared.records.Account.{Account}
 use Rattle.positions.specs.Limits.{units_within, cost_within}
-use Rattle.settlement.specs.Paying.{payment, pay, is_known, is_in_range}
+use Rattle.settlement.specs.Paying.{payment, pay, account_check, balance_check}
 use Rattle.settlement.specs.Owed.{formed, owed}
 
 module _ (last F : ℤ) (x : Keyed Account) where
@@ -17,8 +17,8 @@ module _ (last F : ℤ) (x : Keyed Account) where
       ap at (ap (λ b. b && cost_within x.value) u ∙ k)
 
   module _ (m : Meaning) where
-    pub known_shown : (z k : Bool) → z ≡ is_zero (owed last F x).amount → k ≡ m.known x.key → (z || k) ≡ (is_known m last F x).passes
-    unfolding owed formed is_known
+    pub known_shown : (z k : Bool) → z ≡ is_zero (owed last F x).amount → k ≡ m.known x.key → (z || k) ≡ (account_check m last F x).passes
+    unfolding owed formed account_check
     known_shown z k ez ek =
         ap (λ t. t || k) ez
         ∙ ap (λ t. is_zero (unwrap_or (cond (units_within x.value && cost_within x.value) (Some (payment last F x.value)) None) (pos 0)) || t) ek
@@ -31,8 +31,8 @@ module _ (last F : ℤ) (x : Keyed Account) where
     in_range : Payment → Bool
     in_range p = is_zero p.amount || reaches m.lowest m.highest (m.balance x.key) p.amount
 
-    pub range_shown : units_within x.value ≡ true → (k z r : Bool) → k ≡ cost_within x.value → z ≡ is_zero (owed last F x).amount → r ≡ reaches m.lowest m.highest (m.balance x.key) (owed last F x).amount → (k && (z || r)) ≡ (is_in_range m last F x).passes
-    unfolding is_in_range in_range
+    pub range_shown : units_within x.value ≡ true → (k z r : Bool) → k ≡ cost_within x.value → z ≡ is_zero (owed last F x).amount → r ≡ reaches m.lowest m.highest (m.balance x.key) (owed last F x).amount → (k && (z || r)) ≡ (balance_check m last F x).passes
+    unfolding balance_check in_range
     range_shown u k z r ek ez er = by k ek
       where
         by : (b : Bool) → b ≡ cost_within x.value → (b && (z || r)) ≡ (cost_within x.value && in_range (pay last F x))

@@ -12,7 +12,7 @@ use Rattle.prices.specs.declared.price.Price.{Price}
 use Rattle.positions.specs.declared.records.Account.{Account}
 use Rattle.settlement.specs.declared.ending.Ending.{Ending}
 use Rattle.settlement.specs.Owed.{owed, priced}
-use Rattle.settlement.specs.Paying.{payments, has_units_within, pay_checks, carried, Settles}
+use Rattle.settlement.specs.Paying.{payments, units_check, pay_checks, carried, Settles}
 use Rattle.settlement.proofs.Passing.{owed_all}
 
 module _ (m m' : Meaning) (end : Ending) (last F : ℤ) (xs held xs' : List (Keyed Account)) (is : held ≡ xs) where
@@ -31,8 +31,8 @@ module _ (m : Meaning) (end : Ending) (last : ℤ) (xs held : List (Keyed Accoun
   pub unpriced : (price : Option Price) → price ≡ None → (r : Result (Unit {0}) Fault) → r ≡ verdict tt (first_fault (pay_checks m last None held)) → Settles (first_fault (pay_checks m last (priced price) xs)) end last (priced price) r xs xs m m
   unpriced price none r e =
       let fails = false else NotAdmitted in
-      let a = always (first_fault (map has_units_within xs)) fails.fault in
-      let refused : first_fault (pay_checks m last None xs) ≡ Some a.0 = first-++ (map has_units_within xs) (fails ∷ []) ∙ a.1 in
+      let a = always (first_fault (map units_check xs)) fails.fault in
+      let refused : first_fault (pay_checks m last None xs) ≡ Some a.0 = first-++ (map units_check xs) (fails ∷ []) ∙ a.1 in
       subst (λ p. Settles (first_fault (pay_checks m last (priced p) xs)) end last (priced p) r xs xs m m) (sym none)
       (subst (λ o. Settles o end last None r xs xs m m) (sym refused)
       (e ∙ ap (λ q. verdict tt (first_fault (pay_checks m last None q))) is ∙ ap (verdict tt) refused, refl, same_self m))

@@ -27,25 +27,25 @@ payments last F xs = map (pay last F) xs
 -- ---- what they are refused for
 
 -- a record past its limits forms no payment
-unfoldable pub is_known : Meaning → ℤ → ℤ → Keyed Account → Check
-is_known m last F x =
+unfoldable pub account_check : Meaning → ℤ → ℤ → Keyed Account → Check
+account_check m last F x =
     check (not (units_within x.value && cost_within x.value) || (is_zero (payment last F x.value) || m.known x.key)) UnknownAccount x.key
 
-unfoldable pub has_units_within : Keyed Account → Check
-has_units_within x = check (units_within x.value) AccountUnits x.key
+unfoldable pub units_check : Keyed Account → Check
+units_check x = check (units_within x.value) AccountUnits x.key
 
-unfoldable pub is_in_range : Meaning → ℤ → ℤ → Keyed Account → Check
-is_in_range m last F x =
+unfoldable pub balance_check : Meaning → ℤ → ℤ → Keyed Account → Check
+balance_check m last F x =
     check (cost_within x.value && (is_zero (payment last F x.value) || reaches m.lowest m.highest (m.balance x.key) (payment last F x.value))) OutOfRange x.key
 
 -- a value that is not admitted forms no price, and so no payments
 abbrev pub pay_checks : Meaning → ℤ → Option ℤ → List (Keyed Account) → List Check
 pay_checks m last (Some F) xs =
-    map (is_known m last F) xs
-    ++ (map has_units_within xs
-    ++ (map (is_in_range m last F) xs
+    map (account_check m last F) xs
+    ++ (map units_check xs
+    ++ (map (balance_check m last F) xs
     ++ ((nat_le (made (payments last F xs)) m.capacity else NoCapacity) ∷ [])))
-pay_checks m last None xs = map has_units_within xs ++ ((false else NotAdmitted) ∷ [])
+pay_checks m last None xs = map units_check xs ++ ((false else NotAdmitted) ∷ [])
 
 -- ---- what they leave
 

@@ -5,7 +5,7 @@ ghost use Rattle.ledger.specs.Meaning.{meaning};
 ghost use Rattle.ledger.specs.Payments.{made};
 ghost use Rattle.positions.specs.Limits.{units_within};
 ghost use Rattle.settlement.specs.Owed.{owed};
-ghost use Rattle.settlement.specs.Paying.{has_units_within, is_in_range, is_known, pay_checks};
+ghost use Rattle.settlement.specs.Paying.{units_check, balance_check, account_check, pay_checks};
 
 use crate::limits::{has_cost_within, has_units_within};
 use crate::payment::payment_to;
@@ -18,7 +18,7 @@ use table::Keyed;
 
 // Whether the ledger knows the account, or there is nothing to pay it.
 fn can_be_paid<L: CashLedger>(record: Keyed<Account>, ledger: &L, last: Price, price: Price) -> bool
-    ensures { result ≡ (is_known (meaning L.BalanceReader.reading L.CashLedger.terms ledger.now) last.value price.value «record»).passes }
+    ensures { result ≡ (account_check (meaning L.BalanceReader.reading L.CashLedger.terms ledger.now) last.value price.value «record»).passes }
 {
     let payment = payment_to(record, last, price);
     payment.is_zero() | ledger.is_known(record.key)
@@ -32,7 +32,7 @@ fn stays_in_range<L: CashLedger>(
     price: Price,
 ) -> bool
     requires { units_within «record».value ≡ true }
-    ensures { result ≡ (is_in_range (meaning L.BalanceReader.reading L.CashLedger.terms ledger.now) last.value price.value «record»).passes }
+    ensures { result ≡ (balance_check (meaning L.BalanceReader.reading L.CashLedger.terms ledger.now) last.value price.value «record»).passes }
 {
     let payment = payment_to(record, last, price);
     let lowest = ledger.lowest_balance();
@@ -49,7 +49,7 @@ fn check_known<L: CashLedger>(
     last: Price,
     price: Price,
 ) -> Result<(), Fault>
-    ensures { result ≡ verdict tt (first_fault (map (is_known (meaning L.BalanceReader.reading L.CashLedger.terms ledger.now) last.value price.value) records.now)) }
+    ensures { result ≡ verdict tt (first_fault (map (account_check (meaning L.BalanceReader.reading L.CashLedger.terms ledger.now) last.value price.value) records.now)) }
 {
     for record in records {
         if !can_be_paid(*record, ledger, last, price) {
@@ -64,7 +64,7 @@ fn check_known<L: CashLedger>(
 
 // The first account whose units are past their limit.
 fn check_units(records: &[Keyed<Account>]) -> Result<(), Fault>
-    ensures { result ≡ verdict tt (first_fault (map has_units_within records.now)) }
+    ensures { result ≡ verdict tt (first_fault (map units_check records.now)) }
 {
     for record in records {
         if !has_units_within(record.value) {
@@ -84,8 +84,8 @@ fn check_range<L: CashLedger>(
     last: Price,
     price: Price,
 ) -> Result<(), Fault>
-    requires { first_fault (map has_units_within records.now) ≡ None }
-    ensures { result ≡ verdict tt (first_fault (map (is_in_range (meaning L.BalanceReader.reading L.CashLedger.terms ledger.now) last.value price.value) records.now)) }
+    requires { first_fault (map units_check records.now) ≡ None }
+    ensures { result ≡ verdict tt (first_fault (map (balance_check (meaning L.BalanceReader.reading L.CashLedger.terms ledger.now) last.value price.value) records.now)) }
 {
     for record in records {
         if !stays_in_range(*record, ledger, last, price) {

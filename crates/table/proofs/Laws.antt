@@ -36,9 +36,9 @@ module _ {V : Type 0} where
   take-put_new r (x ∷ xs) h = let ih = take-put_new r xs in grind (arith, nat_tests)
 
   -- of two puts of one key the second counts
-  pub put_put_same : (r s : Keyed V) (xs : List (Keyed V)) → s.key ≡ r.key → put_in s (put_in r xs) ≡ put_in s xs
-  put_put_same r s [] e = grind (arith, nat_tests)
-  put_put_same r s (x ∷ xs) e = let ih = put_put_same r s xs e in grind (arith, nat_tests)
+  pub put-put_same : (r s : Keyed V) (xs : List (Keyed V)) → s.key ≡ r.key → put_in s (put_in r xs) ≡ put_in s xs
+  put-put_same r s [] e = grind (arith, nat_tests)
+  put-put_same r s (x ∷ xs) e = let ih = put-put_same r s xs e in grind (arith, nat_tests)
 
   -- a put of what is found changes nothing
   pub put_found : (r : Keyed V) (xs : List (Keyed V)) → find_in r.key xs ≡ Some r → put_in r xs ≡ xs

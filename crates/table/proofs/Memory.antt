@@ -15,8 +15,8 @@ module _ {V : Type 0} (t : Table V) where
   read_record i x below read = read ∙ sym (get_or-take t.count (memory t) i x below)
 
   -- the records that a table holds lie over its memory
-  pub laid_records : laid (records t) (memory t) ≡ memory t
-  laid_records = ap (λ n. records t ++ drop n (memory t)) length-records ∙ take-append-drop t.count (memory t)
+  pub laid-records : laid (records t) (memory t) ≡ memory t
+  laid-records = ap (λ n. records t ++ drop n (memory t)) length-records ∙ take-append-drop t.count (memory t)
 
   -- a write below the count
   pub laid-set : (i : ℕ) (x : Keyed V) → i < t.count → set (memory t) i x ≡ laid (set (records t) i x) (memory t)

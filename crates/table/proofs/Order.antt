@@ -14,13 +14,13 @@ module _ {V : Type 0} where
   above_less j k [] le h = refl
   above_less j k (x ∷ xs) le h = let ih = above_less j k xs le in grind (arith, nat_tests)
 
-  above_put : (k : ℕ) (r : Keyed V) (xs : List (Keyed V)) → k < r.key → above k xs ≡ true → above k (put_in r xs) ≡ true
-  above_put k r [] lt h = grind (arith, nat_tests)
-  above_put k r (x ∷ xs) lt h = let ih = above_put k r xs lt in grind (arith, nat_tests)
+  above-put : (k : ℕ) (r : Keyed V) (xs : List (Keyed V)) → k < r.key → above k xs ≡ true → above k (put_in r xs) ≡ true
+  above-put k r [] lt h = grind (arith, nat_tests)
+  above-put k r (x ∷ xs) lt h = let ih = above-put k r xs lt in grind (arith, nat_tests)
 
-  above_take : (k j : ℕ) (xs : List (Keyed V)) → above k xs ≡ true → above k (take_out j xs) ≡ true
-  above_take k j [] h = refl
-  above_take k j (x ∷ xs) h = let ih = above_take k j xs in grind (arith, nat_tests)
+  above-take : (k j : ℕ) (xs : List (Keyed V)) → above k xs ≡ true → above k (take_out j xs) ≡ true
+  above-take k j [] h = refl
+  above-take k j (x ∷ xs) h = let ih = above-take k j xs in grind (arith, nat_tests)
 
   above_prefix : (k n : ℕ) (xs : List (Keyed V)) → above k xs ≡ true → above k (take n xs) ≡ true
   above_prefix k zero xs h = refl
@@ -31,7 +31,7 @@ module _ {V : Type 0} where
   rising-put r [] h = refl
   rising-put r (x ∷ xs) h =
       let ih = rising-put r xs in
-      let up = above_put x.key r xs in
+      let up = above-put x.key r xs in
       let low = above_less r.key x.key xs in
       grind (arith, nat_tests)
 
@@ -39,7 +39,7 @@ module _ {V : Type 0} where
   rising-take k [] h = refl
   rising-take k (x ∷ xs) h =
       let ih = rising-take k xs in
-      let up = above_take x.key k xs in
+      let up = above-take x.key k xs in
       grind (arith, nat_tests)
 
   rising_prefix : (n : ℕ) (xs : List (Keyed V)) → rising xs ≡ true → rising (take n xs) ≡ true

@@ -34,22 +34,22 @@ module _ {V : Type 0} (k : ℕ) where
   put_front r x xs f e = cond-false _ _ _ (le-ltb x.key r.key (omega arith)) ∙ ap (λ q. r ∷ q) (cond-true _ _ _ (eq-eqb x.key r.key (omega arith)))
 
   -- a list that begins above k
-  Begins-above : List (Keyed V) → Type 0
-  Begins-above [] = Unit {0}
-  Begins-above (x ∷ xs) = k < x.key
+  BeginsAbove : List (Keyed V) → Type 0
+  BeginsAbove [] = Unit {0}
+  BeginsAbove (x ∷ xs) = k < x.key
 
-  find_beyond : (xs : List (Keyed V)) → Begins-above xs → find_in k xs ≡ None
-  unfolding Begins-above
+  find_beyond : (xs : List (Keyed V)) → BeginsAbove xs → find_in k xs ≡ None
+  unfolding BeginsAbove
   find_beyond [] _ = refl
   find_beyond (x ∷ xs) h = cond-false _ _ _ (le-ltb x.key k (omega arith)) ∙ cond-false _ _ _ (ne_eqb x.key k (λ e. omega arith))
 
-  take_beyond : (xs : List (Keyed V)) → Begins-above xs → take_out k xs ≡ xs
-  unfolding Begins-above
+  take_beyond : (xs : List (Keyed V)) → BeginsAbove xs → take_out k xs ≡ xs
+  unfolding BeginsAbove
   take_beyond [] _ = refl
   take_beyond (x ∷ xs) h = cond-false _ _ _ (le-ltb x.key k (omega arith)) ∙ cond-false _ _ _ (ne_eqb x.key k (λ e. omega arith))
 
-  put_beyond : (r : Keyed V) (xs : List (Keyed V)) → r.key ≡ k → Begins-above xs → put_in r xs ≡ r ∷ xs
-  unfolding Begins-above
+  put_beyond : (r : Keyed V) (xs : List (Keyed V)) → r.key ≡ k → BeginsAbove xs → put_in r xs ≡ r ∷ xs
+  unfolding BeginsAbove
   put_beyond r [] f _ = refl
   put_beyond r (x ∷ xs) f h = cond-false _ _ _ (le-ltb x.key r.key (omega arith)) ∙ ap (λ q. r ∷ q) (cond-false _ _ _ (ne_eqb x.key r.key (λ e. omega arith)))
 
@@ -78,12 +78,12 @@ module _ {V : Type 0} (k : ℕ) where
         ∙ sym (set_split xs i r s.within)
 
   module _ (xs : List (Keyed V)) (i : ℕ) (l : Lacks k xs i) where
-    above_from : (qs : List (Keyed V)) → ((d : Keyed V) → 0 < length qs → k < (get_or qs 0 d).key) → Begins-above qs
-    unfolding Begins-above
+    above_from : (qs : List (Keyed V)) → ((d : Keyed V) → 0 < length qs → k < (get_or qs 0 d).key) → BeginsAbove qs
+    unfolding BeginsAbove
     above_from [] h = tt
     above_from (q ∷ qs) h = h q (omega arith)
 
-    rest_above : Begins-above (drop i xs)
+    rest_above : BeginsAbove (drop i xs)
     rest_above =
         above_from (drop i xs) (λ d h.
         let n = length-drop i xs in

@@ -9,15 +9,15 @@ use Rattle.table.specs.Records.{each_value, revalued, set_in}
 use Rattle.table.specs.Rising.{above, rising}
 
 module _ {V : Type 0} (v : V) where
-  above_set : (k i : ℕ) (xs : List (Keyed V)) → above k (set_in i v xs) ≡ above k xs
-  above_set k i [] = refl
-  above_set k zero (x ∷ xs) = refl
-  above_set k (suc i) (x ∷ xs) = ap (λ b. ltb k x.key && b) (above_set k i xs)
+  above-set : (k i : ℕ) (xs : List (Keyed V)) → above k (set_in i v xs) ≡ above k xs
+  above-set k i [] = refl
+  above-set k zero (x ∷ xs) = refl
+  above-set k (suc i) (x ∷ xs) = ap (λ b. ltb k x.key && b) (above-set k i xs)
 
   pub rising-set : (i : ℕ) (xs : List (Keyed V)) → rising (set_in i v xs) ≡ rising xs
   rising-set i [] = refl
   rising-set zero (x ∷ xs) = refl
-  rising-set (suc i) (x ∷ xs) = ap (λ b. b && rising (set_in i v xs)) (above_set x.key i xs) ∙ ap (λ b. above x.key xs && b) (rising-set i xs)
+  rising-set (suc i) (x ∷ xs) = ap (λ b. b && rising (set_in i v xs)) (above-set x.key i xs) ∙ ap (λ b. above x.key xs && b) (rising-set i xs)
 
   pub length-set_in : (i : ℕ) (xs : List (Keyed V)) → length (set_in i v xs) ≡ length xs
   length-set_in i [] = refl

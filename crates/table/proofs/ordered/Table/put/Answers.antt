@@ -5,7 +5,7 @@ use Rattle.table.specs.declared.ordered.Table.{Table}
 use Rattle.table.specs.Places.{Stands}
 use Rattle.table.specs.Records.{put_in}
 use Rattle.table.specs.View.{laid, memory, records, room}
-use Rattle.table.proofs.Memory.{Lays, laid_records, laid-set, length-records, now_memory, now_records, now_room, now_sound}
+use Rattle.table.proofs.Memory.{Lays, laid-records, laid-set, length-records, now_memory, now_records, now_room, now_sound}
 use Rattle.table.proofs.Order.{rising-put}
 use Rattle.table.proofs.Places.{put_adds, put_full, put_replaces, put_stands}
 use Rattle.table.proofs.Told.{after_put}
@@ -50,7 +50,7 @@ returns-then-self g c =
     record {
       answer = sym (put_full (room t) c.args.incoming (records t) c.in-Err.place c.in-Err.ensures (omega arith));
       records = refl {a = records t};
-      memory = sym (laid_records t);
+      memory = sym (laid-records t);
       room = refl {a = room t};
       lender = refl {a = t.places.ghost_name};
       law = λ (ok : false ≡ true). absurd (let z : ◌≡◌ {A = ℕ} 0 1 = cc in omega arith);

@@ -5,7 +5,7 @@ use Rattle.table.specs.declared.keyed.Keyed.{Keyed}
 use Rattle.table.specs.declared.ordered.Table.{Table}
 use Rattle.table.specs.Records.{set_in}
 use Rattle.table.specs.View.{laid, memory, records, room}
-use Rattle.table.proofs.Memory.{Lays, laid_records, laid-set, length-records, now_memory, now_records, now_room, now_sound}
+use Rattle.table.proofs.Memory.{Lays, laid-records, laid-set, length-records, now_memory, now_records, now_room, now_sound}
 use Rattle.table.proofs.Values.{length-set_in, rising-set, set_in_past, set_value}
 use Rattle.table.proofs.ordered.Table.set_at.Goals as goal
 
@@ -48,7 +48,7 @@ returns g c =
     record {
       answer = sym (le-ltb c.args.place (length (records t)) (omega arith));
       records = sym (set_in_past c.args.value c.args.place (records t) (omega arith));
-      memory = sym (laid_records t);
+      memory = sym (laid-records t);
       room = refl {a = room t};
       lender = refl {a = t.places.ghost_name};
     }

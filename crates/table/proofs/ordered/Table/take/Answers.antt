@@ -1,7 +1,7 @@
 use Rattle.std.proofs.Common.{Some, sym, refl, ap, ◌∙◌, arith}
 use Rattle.std.proofs.lemmas.List.{get_or-take}
 use Rattle.table.specs.View.{memory, records, room}
-use Rattle.table.proofs.Memory.{laid_records, length-records}
+use Rattle.table.proofs.Memory.{laid-records, length-records}
 use Rattle.table.proofs.Places.{find_lacks, find_stands, take_lacks}
 use Rattle.table.proofs.Told.{after_take}
 use Rattle.table.proofs.ordered.Table.take.Goals as goal
@@ -33,7 +33,7 @@ returns-in-Err g c =
     record {
       answer = sym (find_lacks key (records t) c.in-Err.field-0 lacks);
       records = after;
-      memory = sym (laid_records t);
+      memory = sym (laid-records t);
       room = refl {a = room t};
       lender = refl {a = t.places.ghost_name};
       law = after_take key (records t) _ t.order after;
