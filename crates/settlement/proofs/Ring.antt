@@ -1,6 +1,7 @@
 -- Products and sizes of integers.
-use Rattle.std.proofs.Common.{◌≡◌, ℕ, zero, suc, ◌+◌, ◌*◌, ◌≤◌, ℤ, pos, negsuc, ◌+ℤ◌, ◌-ℤ◌, ◌*ℤ◌, neg_ℤ, nat_abs, refl, ap, ◌∙◌, mul-le-mul, arith}
+use Rattle.std.proofs.Common.{◌≡◌, ℕ, ◌+◌, ◌*◌, ◌≤◌, ℤ, ◌+ℤ◌, ◌-ℤ◌, ◌*ℤ◌, neg_ℤ, nat_abs, ap, ◌∙◌, mul-le-mul, arith}
 use lib.IntN.{*ℤ_comm, neg_ℤ-+ℤ}
+use Rattle.prices.proofs.Sized.{abs-mul}
 use borrow.Author.Differences.{up, down, ints, sum_is_lem, neg_is, same_in, same_out}
 
 pub *ℤ-distr : (a b c : ℤ) → (a +ℤ b) *ℤ c ≡ a *ℤ c +ℤ b *ℤ c
@@ -20,17 +21,6 @@ pub ruleset expand = (*ℤ-distr, *ℤ-distl, *ℤ_comm, neg-*ℤ, *ℤ-neg, neg
 
 -- sums and negations of integers, with each product an unknown
 pub ruleset linear = (same_in, same_out, sum_is_lem, neg_is)
-
-abs-neg : (z : ℤ) → nat_abs (neg_ℤ z) ≡ nat_abs z
-abs-neg (pos zero) = refl
-abs-neg (pos (suc n)) = refl
-abs-neg (negsuc n) = refl
-
-abs-mul : (a b : ℤ) → nat_abs (a *ℤ b) ≡ nat_abs a * nat_abs b
-abs-mul (pos a) (pos b) = refl
-abs-mul (pos a) (negsuc b) = abs-neg (pos (a * suc b))
-abs-mul (negsuc a) (pos b) = abs-neg (pos (suc a * b))
-abs-mul (negsuc a) (negsuc b) = refl
 
 pub product_most : (a b : ℤ) (m n : ℕ) → nat_abs a ≤ m → nat_abs b ≤ n → nat_abs (a *ℤ b) ≤ m * n
 product_most a b m n h k = rw abs-mul (mul-le-mul h k)
