@@ -1,3 +1,4 @@
+mod Printing
 mod Membership
 mod Notes
 mod Turns

@@ -14,7 +14,7 @@ use Rattle.dayfile.specs.declared.lines.Line.TheVariants.{Close}
 use Rattle.dayfile.specs.declared.reader.Item.{Item}
 use Rattle.dayfile.specs.declared.reader.Item.TheVariants as item
 use Rattle.dayfile.specs.declared.reader.Placed.{Placed}
-use Rattle.dayfile.specs.declared.reader.Read.{Read}
+use Rattle.dayfile.specs.declared.words.Read.{Read}
 use Rattle.dayfile.specs.Words.{item_at, of_length, wrong_length}
 use Rattle.faults.specs.Checks.{first_fault}
 use Rattle.faults.specs.declared.Fault.{Fault}

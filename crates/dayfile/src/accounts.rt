@@ -45,10 +45,7 @@ impl AccountList {
     {
         let count = self.count;
         if count >= MOST_ACCOUNTS {
-            return Err(Fault {
-                refusal: Refusal::NoAccountPlace,
-                account,
-            });
+            return Err(Refusal::NoAccountPlace.at(account));
         }
         self.places[count] = account;
         self.count = count + 1;

@@ -4,6 +4,7 @@
 pub mod account_list;
 mod accounts;
 pub mod file_fault;
+mod kind;
 pub mod limits;
 pub mod lines;
 pub mod reader;
