@@ -86,47 +86,36 @@ impl<'a, V: Copy> Table<'a, V> {
         ensures places { SamePlaces self.old self.new }
         ensures law { AfterTake key (records self.old) (records self.new) }
     {
-        match self.seek(key) {
-            Ok(place) => {
-                let taken = self.places[place];
-                self.remove(place, key);
-                Some(taken)
-            }
-            Err(_) => None,
-        }
+        let place = self.seek(key).ok()?;
+        let taken = self.at(place);
+        self.remove(place, key);
+        taken
     }
 
     // Adds a record of a new key at its place, and moves those from there on up by one. Meanwhile only those below count.
-    fn insert(&mut self, place: usize, incoming: Keyed<V>)
-        requires place { Lacks incoming.key (records self.old) place }
+    fn insert(&mut self, place: usize, added: Keyed<V>)
+        requires place { Lacks added.key (records self.old) place }
         requires free { length (records self.old) < room self.old }
-        ensures records { records self.new ≡ put_in incoming (records self.old) }
+        ensures records { records self.new ≡ put_in added (records self.old) }
         ensures memory { memory self.new ≡ laid (records self.new) (memory self.old) }
         ensures places { SamePlaces self.old self.new }
     {
         let count = self.count;
         self.count = place;
-        let mut carried = incoming;
-        for slot in place..count + 1 {
-            let next = self.places[slot];
-            self.places[slot] = carried;
-            carried = next;
-        }
+        self.places.copy_within(place..count, place + 1);
+        self.places[place] = added;
         self.count = count + 1;
     }
 
-    // Drops the record of a key from its place, and moves those above down by one. Meanwhile only those below count.
+    // Drops the record of a key from its place, and moves those above down by one. The last one stays in its old place too, which does not count.
     fn remove(&mut self, place: usize, key: u32)
         requires { Stands key (records self.old) place }
         ensures records { records self.new ≡ take_out key (records self.old) }
         ensures memory { memory self.new ≡ laid (records self.new) (memory self.old) }
         ensures places { SamePlaces self.old self.new }
     {
-        let last = self.count - 1;
-        self.count = place;
-        for slot in place..last {
-            self.places[slot] = self.places[slot + 1];
-        }
-        self.count = last;
+        let count = self.count;
+        self.count = count - 1;
+        self.places.copy_within(place + 1..count, place);
     }
 }
