@@ -1,6 +1,6 @@
 -- Records laid over the memory from its first place on.
-use Rattle.std.proofs.Common.{◌≡◌, ℕ, ◌+◌, ◌-◌, ◌<◌, ◌≤◌, true, List, ◌++◌, length, get_or, take, drop, set, sym, refl, ap, ◌∙◌, subst, arith}
-use Rattle.std.proofs.lemmas.List.{drop_at, drop-drop, get_or-take, length-append, length-drop, length-set, length-take-le, set-append_left, take-append-drop, take_at}
+use Rattle.std.proofs.Common.{◌≡◌, ℕ, ◌+◌, ◌-◌, ◌<◌, ◌≤◌, true, List, ◌++◌, length, take, drop, set, sym, refl, ap, ◌∙◌, subst, arith}
+use Rattle.std.proofs.lemmas.List.{drop_at, drop-drop, length-append, length-drop, length-set, length-take-le, set-append_left, take-append-drop, take_at}
 use Rattle.table.specs.declared.keyed.Keyed.{Keyed}
 use Rattle.table.specs.declared.ordered.Table.{Table}
 use Rattle.table.specs.Rising.{rising}
@@ -9,10 +9,6 @@ use Rattle.table.specs.View.{SamePlaces, laid, memory, records}
 module _ {V : Type 0} (t : Table V) where
   pub length-records : length (records t) ≡ t.count
   length-records = length-take-le t.count (memory t) t.within
-
-  -- what is read at a place below the count is the record of that place
-  pub read_record : (i : ℕ) (x : Keyed V) → i < t.count → x ≡ get_or (memory t) i x → x ≡ get_or (records t) i x
-  read_record i x below read = read ∙ sym (get_or-take t.count (memory t) i x below)
 
   -- the records that a table holds lie over its memory
   pub laid-records : laid (records t) (memory t) ≡ memory t

@@ -1,9 +1,9 @@
 -- What `find_in`, `put_in`, `take_out` and a put's answer are at the place of a key.
-use Rattle.std.proofs.Common.{◌≡◌, ℕ, zero, suc, ◌<◌, ◌≤◌, true, List, [], ◌∷◌, length, set, is_some, Some, None, Result, Ok, Err, MatchOption, MatchResult, refl, ap, ◌∙◌, arith}
+use Rattle.std.proofs.Common.{◌≡◌, ℕ, zero, suc, ◌<◌, ◌≤◌, true, List, [], ◌∷◌, length, set, is_some, Some, None, Result, Ok, Err, MatchOption, MatchResult, Option, sym, refl, ap, ◌∙◌, arith}
 use Rattle.std.specs.List.{insert, remove, slice_get}
 use Rattle.std.specs.Result.{result_ok}
 use Rattle.std.proofs.lemmas.Bool.Decides.{nat_tests}
-use Rattle.std.proofs.lemmas.Option.{slice_get-get_or}
+use Rattle.std.proofs.lemmas.Option.{MatchOption-at_none, MatchOption-at_some, slice_get-get_or}
 use Rattle.table.specs.declared.keyed.Keyed.{Keyed}
 use Rattle.table.specs.declared.ordered.Stored.TheVariants.{Replaced, Added}
 use Rattle.table.specs.Places.{Stands, Lacks}
@@ -74,10 +74,19 @@ module _ {V : Type 0} (k : ℕ) where
   holds_stands [] i s = absurd (omega (arith, s.within))
   holds_stands (x ∷ xs) i s = ap is_some (find_stands (x ∷ xs) i s ∙ slice_get-get_or (x ∷ xs) i x s.within)
 
-  -- what a search that keeps only the place of a record says
-  pub sought : (xs : List (Keyed V)) (r : Result ℕ ℕ) → MatchResult r (Stands k xs) (Lacks k xs) → MatchOption (result_ok r) ((find_in k xs ≡ None) × (take_out k xs ≡ xs)) (Stands k xs)
-  sought xs (Ok i) s = s
-  sought xs (Err i) l = (find_lacks xs i l, take_lacks xs i l)
+  -- what a search says whose place alone is kept
+  module _ (xs : List (Keyed V)) (r : Result ℕ ℕ) (found : MatchResult r (Stands k xs) (Lacks k xs)) (o : Option ℕ) (so : o ≡ result_ok r) where
+    sought : MatchOption (result_ok r) ((find_in k xs ≡ None) × (take_out k xs ≡ xs)) (Stands k xs)
+    sought = elim r as (λ r. MatchResult r (Stands k xs) (Lacks k xs) → MatchOption (result_ok r) ((find_in k xs ≡ None) × (take_out k xs ≡ xs)) (Stands k xs)) [
+      | Ok i ↦ λ s. s
+      | Err i ↦ λ l. (find_lacks xs i l, take_lacks xs i l)
+    ] found
+
+    pub place_kept : (i : ℕ) → o ≡ Some i → Stands k xs i
+    place_kept i is = MatchOption-at_some _ _ i (sym so ∙ is) sought
+
+    pub no_place : o ≡ None → (find_in k xs ≡ None) × (take_out k xs ≡ xs)
+    no_place is = MatchOption-at_none _ _ (sym so ∙ is) sought
 
 -- what a put answers where its key stands, and where it lacks
 module _ {V : Type 0} (n : ℕ) (r : Keyed V) (xs : List (Keyed V)) (i : ℕ) where
