@@ -27,6 +27,10 @@ pub record SamePlaces {V : Type 0} (before after : Table V) : Type 0 where
 abbrev pub laid : {V : Type 0} → List (Keyed V) → List (Keyed V) → List (Keyed V)
 laid xs places = xs ++ drop (length xs) places
 
+-- a change lays the records that it leaves over the memory, and writes nothing beyond them
+abbrev pub LaysRecords : {V : Type 0} → Table V → Table V → Type 0
+LaysRecords before after = memory after ≡ laid (records after) (memory before)
+
 -- whether a table of n places with the records xs has a place for the key k: it stands there, or a place is left
 abbrev pub place_for : {V : Type 0} → ℕ → ℕ → List (Keyed V) → Bool
 place_for n k xs = is_some (find_in k xs) || nat_lt (length xs) n

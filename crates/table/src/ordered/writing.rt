@@ -3,7 +3,7 @@ ghost use Rattle.std.specs.Prelude.{◌≡◌, ◌<◌, true, [], length, is_ok,
 ghost use Rattle.table.specs.Laws.{AfterPut, AfterTake};
 ghost use Rattle.table.specs.Places.{Lacks, Stands};
 ghost use Rattle.table.specs.Records.{each_value, find_in, key_of, put_in, set_in, take_out};
-ghost use Rattle.table.specs.View.{SamePlaces, laid, memory, put_answer, records, room};
+ghost use Rattle.table.specs.View.{LaysRecords, SamePlaces, memory, put_answer, records, room};
 
 use super::{Full, Stored, Table};
 use crate::keyed::Keyed;
@@ -33,7 +33,7 @@ impl<'a, V: Copy> Table<'a, V> {
     pub fn set_at(&mut self, place: usize, value: V) -> bool
         ensures answer { result ≡ nat_lt place (length (records self.old)) }
         ensures records { records self.new ≡ set_in place value (records self.old) }
-        ensures memory { memory self.new ≡ laid (records self.new) (memory self.old) }
+        ensures memory { LaysRecords self.old self.new }
         ensures places { SamePlaces self.old self.new }
     {
         if place < self.count {
@@ -48,7 +48,7 @@ impl<'a, V: Copy> Table<'a, V> {
         requires { F.IsAlwaysCallable f }
         ensures keys { map key_of (records self.new) ≡ map key_of (records self.old) }
         ensures values { (g : V → V) → ((v w : V) → F.post f v w → w ≡ g v) → records self.new ≡ each_value g (records self.old) }
-        ensures memory { memory self.new ≡ laid (records self.new) (memory self.old) }
+        ensures memory { LaysRecords self.old self.new }
         ensures places { SamePlaces self.old self.new }
     {
         let count = self.count;
@@ -59,7 +59,7 @@ impl<'a, V: Copy> Table<'a, V> {
     pub fn put(&mut self, incoming: Keyed<V>) -> Result<Stored, Full>
         ensures answer { result ≡ put_answer (room self.old) incoming (records self.old) }
         ensures records { records self.new ≡ (if is_ok result then put_in incoming (records self.old) else records self.old) }
-        ensures memory { memory self.new ≡ laid (records self.new) (memory self.old) }
+        ensures memory { LaysRecords self.old self.new }
         ensures places { SamePlaces self.old self.new }
         ensures law { is_ok result ≡ true → AfterPut incoming (records self.old) (records self.new) }
     {
@@ -82,7 +82,7 @@ impl<'a, V: Copy> Table<'a, V> {
     pub fn take(&mut self, key: u32) -> Option<Keyed<V>>
         ensures answer { result ≡ find_in key (records self.old) }
         ensures records { records self.new ≡ take_out key (records self.old) }
-        ensures memory { memory self.new ≡ laid (records self.new) (memory self.old) }
+        ensures memory { LaysRecords self.old self.new }
         ensures places { SamePlaces self.old self.new }
         ensures law { AfterTake key (records self.old) (records self.new) }
     {
@@ -97,7 +97,7 @@ impl<'a, V: Copy> Table<'a, V> {
         requires place { Lacks added.key (records self.old) place }
         requires free { length (records self.old) < room self.old }
         ensures records { records self.new ≡ put_in added (records self.old) }
-        ensures memory { memory self.new ≡ laid (records self.new) (memory self.old) }
+        ensures memory { LaysRecords self.old self.new }
         ensures places { SamePlaces self.old self.new }
     {
         let count = self.count;
@@ -111,7 +111,7 @@ impl<'a, V: Copy> Table<'a, V> {
     fn remove(&mut self, place: usize, key: u32)
         requires { Stands key (records self.old) place }
         ensures records { records self.new ≡ take_out key (records self.old) }
-        ensures memory { memory self.new ≡ laid (records self.new) (memory self.old) }
+        ensures memory { LaysRecords self.old self.new }
         ensures places { SamePlaces self.old self.new }
     {
         let count = self.count;
