@@ -1,4 +1,2 @@
 mod Printing
-mod Membership
-mod Notes
 mod Turns

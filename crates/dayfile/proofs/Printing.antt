@@ -1,5 +1,5 @@
 -- What a number writes that is filled up with zeros.
-use Rattle.std.proofs.Common.{◌≡◌, ℕ, zero, suc, false, eqb, length, append-nil, replicate, arith, ne_eqb}
+use Rattle.std.proofs.Common.{◌≡◌, ℕ, zero, suc, false, eqb, length, append-nil, arith, ne_eqb}
 use Rattle.std.proofs.Math.Nat.{sub-zero, zero-sub}
 use Rattle.std.specs.Fmt.{decimal, styled_decimal, format_spec, padded_integral, char_count}
 use Rattle.dayfile.specs.Texts.{zero_padded}

@@ -1,6 +1,5 @@
-use Rattle.std.proofs.Common.{◌∙◌, rules, w64, SFits}
+use Rattle.std.proofs.Common.{rules, w64, SFits}
 use Rattle.std.proofs.lemmas.Int.{to_z-of_z}
-use Rattle.std.specs.Fmt.{styled_decimal}
 use Rattle.dayfile.proofs.Printing.{filled_with_zeros}
 use Rattle.dayfile.proofs.texts.DecimalDisplay.fmt.Goals as goal
 

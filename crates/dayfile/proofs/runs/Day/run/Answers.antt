@@ -1,5 +1,5 @@
 use Rattle.std.proofs.Common.{◌∙◌, inr, arith}
-use Rattle.dayfile.proofs.runs.run.Goals as goal
+use Rattle.dayfile.proofs.runs.Day.run.Goals as goal
 use Rattle.dayfile.proofs.Turns.{at_start, again, at_end, stops_unread, stops_refused, turned, unread, ended}
 use Rattle.std.proofs.lemmas.Result.{err_from_is_err_and}
 
