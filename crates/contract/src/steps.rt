@@ -4,7 +4,7 @@ ghost use Rattle.contract.specs.declared.figures.Phase.TheVariants.{Ready, Tradi
 ghost use Rattle.contract.specs.declared.inputs.Checked.TheVariants as checked;
 ghost use Rattle.faults.specs.Checks.{first_fault};
 ghost use Rattle.contract.specs.Inputs.{plain};
-ghost use Rattle.contract.specs.Step.{unlisted, listed as listed_at, accrued, state_checks, checks, Ends, Step as StepOf};
+ghost use Rattle.contract.specs.Step.{unlisted, listed as listed_at, accrued, checks, Ends, Serves, Step as StepOf};
 
 use crate::call_fault::ContractFault;
 use crate::calls::{Answer, Call};
@@ -55,7 +55,7 @@ impl Contract {
     // Ready to Trading, while a close is still to come.
     fn open(&mut self, discount: DiscountFactor) -> Result<Answer, Fault>
         requires { self.old.figures.phase ≡ Ready }
-        ensures { Ends (first_fault (state_checks self.old.figures (Call.Open discount.value))) self.old.figures (Call.Open discount.value) result self.new.figures }
+        ensures { Serves self.old.figures (Call.Open discount.value) result self.new.figures }
     {
         require(
             self.figures.closes + 1 < self.figures.expected,
@@ -72,7 +72,7 @@ impl Contract {
     // Trading to Closed: the day's value is kept, unless the day is disrupted, and the mark makes the settlement price.
     fn close(&mut self, value: Option<IndexValue>, bid: Tick, offer: Tick) -> Result<Answer, Fault>
         requires { self.old.figures.phase ≡ Trading }
-        ensures { Ends (first_fault (state_checks self.old.figures (plain (checked.Close value bid offer)))) self.old.figures (plain (checked.Close value bid offer)) result self.new.figures }
+        ensures { Serves self.old.figures (plain (checked.Close value bid offer)) result self.new.figures }
     {
         let index = self.figures.index.keep(value)?;
         let price = settlement_price(self.figures, index, bid, offer);
@@ -108,7 +108,7 @@ impl Contract {
 
     // The phase and the call together tell what is done; every other pair is refused.
     fn serve(&mut self, call: Checked) -> Result<Answer, Fault>
-        ensures { Ends (first_fault (state_checks self.old.figures (plain call))) self.old.figures (plain call) result self.new.figures }
+        ensures { Serves self.old.figures (plain call) result self.new.figures }
     {
         match (self.figures.phase, call) {
             (Phase::Unlisted, Checked::List { expected, strike }) => {
