@@ -11,7 +11,7 @@ use quantities::{
     AccountNumber, DiscountFactor, ExpectedValues, IndexValue, Rate, Strike, Tick, Vega,
 };
 
-#[derive(Clone, Copy)]
+#[derive(Clone, Copy, PartialEq, Eq, Debug)]
 pub(crate) enum Checked {
     List {
         expected: ExpectedValues,
@@ -76,7 +76,7 @@ fn check_trade(buyer: u32, seller: u32, vega: u32, tick: u32) -> Result<Checked,
 {
     let buyer = AccountNumber::of(buyer)?;
     let seller = AccountNumber::of(seller)?;
-    require(buyer.value != seller.value, Refusal::SameAccount)?;
+    require(buyer != seller, Refusal::SameAccount)?;
     Ok(Checked::Trade {
         buyer,
         seller,
@@ -90,7 +90,7 @@ fn check_close(value: Option<u32>, bid: u32, offer: u32) -> Result<Checked, Faul
 {
     let bid = Tick::of(bid)?;
     let offer = Tick::of(offer)?;
-    require(bid.value <= offer.value, Refusal::BidAboveOffer)?;
+    require(bid <= offer, Refusal::BidAboveOffer)?;
     Ok(Checked::Close {
         value: check_value(value)?,
         bid,

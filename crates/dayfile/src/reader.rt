@@ -9,7 +9,7 @@ use crate::words::{BODIES, Read, one_word, two_words, word_at, wrong_word};
 use contract::Call;
 use faults::{Refusal, require};
 
-#[derive(Clone, Copy)]
+#[derive(Clone, Copy, PartialEq, Eq, Debug)]
 pub enum Item {
     // An account of the balance table.
     Account(u32),
@@ -17,7 +17,7 @@ pub enum Item {
 }
 
 // An item, and the place of its first word.
-#[derive(Clone, Copy)]
+#[derive(Clone, Copy, PartialEq, Eq, Debug)]
 pub struct Placed {
     pub place: usize,
     pub item: Item,

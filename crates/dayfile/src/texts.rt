@@ -4,6 +4,7 @@ ghost use Rattle.dayfile.specs.Texts.{sign, decimal_text, line_text, call_word, 
 
 use crate::file_fault::{Cause, FileFault};
 use crate::lines::Line;
+use std::error::Error;
 use std::fmt;
 
 fn sign_of(value: i64) -> &'static str
@@ -13,7 +14,7 @@ fn sign_of(value: i64) -> &'static str
 }
 
 // A number of parts, of which UNIT make a whole, written with so many decimals.
-#[derive(Clone, Copy)]
+#[derive(Clone, Copy, PartialEq, Eq, Debug)]
 pub struct Decimal<const UNIT: u64, const DECIMALS: usize> {
     pub value: i64,
     ghost whole: { 0 < UNIT },
@@ -88,3 +89,5 @@ impl fmt::Display for FileFault {
         }
     }
 }
+
+impl Error for FileFault {}
