@@ -1,5 +1,7 @@
 -- Rounded quotients: how far they are off, where they are exact, and that they keep order.
-use Rattle.std.proofs.Common.{◌≡◌, ℕ, zero, suc, ◌+◌, ◌-◌, ◌*◌, ◌/◌, ◌<◌, ◌≤◌, ℤ, pos, negsuc, ◌-ℤ◌, ◌*ℤ◌, neg_ℤ, nat_abs, ◌≤ℤ◌, sym, refl, ap, ◌∙◌, subst, div-lt_iff_lt-mul, le-div_iff_mul-le, zero-mul, div-mul-le_self, arith}
+use Rattle.std.proofs.Common.{◌≡◌, ℕ, zero, suc, ◌+◌, ◌-◌, ◌*◌, ◌/◌, ◌<◌, ◌≤◌, ℤ, pos, negsuc, ◌-ℤ◌, ◌*ℤ◌, neg_ℤ, nat_abs, ◌≤ℤ◌, sym, refl, ap, ◌∙◌, subst, div-lt_iff_lt-mul, le-div_iff_mul-le, zero-mul, div-mul-le_self, mul-le-mul, mul-le-mul_right, arith}
+use Rattle.std.specs.Int.{div_ceil}
+use Rattle.std.proofs.lemmas.Grind.{common_steps}
 use native.Mathlib.Nat.{div-eq_of_lt-le, lt-div-mul-add}
 use lib.IntN.{neg_ℤ-neg_ℤ}
 use Rattle.std.proofs.lemmas.Int.{ints}
@@ -60,6 +62,13 @@ up_exact q d p =
 
 pub up_order : (m n d : ℕ) → 0 < d → m ≤ n → up m d ≤ up n d
 up_order m n d p h = div_order (m + (d - 1)) (n + (d - 1)) d p (omega arith)
+
+-- the library's word for it
+pub up_is : (n d : ℕ) → 0 < d → div_ceil n d ≡ up n d
+up_is n d p = grind (arith, common_steps)
+
+pub square_each : (v n : ℕ) → v ≤ 20000 → v * v * n ≤ 400000000 * n
+square_each v n h = mul-le-mul_right n (mul-le-mul h h)
 
 -- ---- signed
 
