@@ -1,2 +1,2 @@
+pub mod Bearing
 pub mod Quotients
-pub mod Signed

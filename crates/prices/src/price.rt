@@ -19,14 +19,14 @@ const RETURN_UNITS: u32 = 10_000;
 const RATE_YEAR: u32 = 3_600_000;
 
 // A price, in ten-thousandths of a point.
-#[derive(Clone, Copy)]
+#[derive(Clone, Copy, PartialEq, Eq)]
 pub struct Price {
     pub value: i64,
     ghost ok: { unsigned_abs value ≤ 3400000000 },
 }
 
 // A, the return that variation margin has earned so far, in hundred-millionths of a point.
-#[derive(Clone, Copy)]
+#[derive(Clone, Copy, PartialEq, Eq)]
 pub struct AccumulatedReturn {
     pub value: i64,
     ghost ok: { unsigned_abs value ≤ 12000000000000 },
@@ -43,7 +43,7 @@ pub fn mark(bid: Tick, offer: Tick) -> Tick
 
 impl Price {
     // The price of a variance k on a day with a discount factor.
-    #[tactic(auto, using(crate::proofs::Signed::signed, crate::proofs::Signed::converted_bearing))]
+    #[tactic(auto, using(crate::proofs::Bearing::converting))]
     pub fn converted(
         factor: DiscountFactor,
         variance: Variance,

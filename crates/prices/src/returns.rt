@@ -11,7 +11,7 @@ const ONE: u64 = 10_000_000_000;
 const PLACES_DROPPED: u64 = 100_000_000;
 
 // R, the size of a logarithmic return, in units of 10^-10. No admitted pair has a larger one than the limit.
-#[derive(Clone, Copy)]
+#[derive(Clone, Copy, PartialEq, Eq)]
 pub struct Return {
     pub value: u64,
     ghost ok: { value ≤ 2876820718 },
@@ -45,6 +45,26 @@ impl Return {
     }
 }
 
+// z or a power of it, to ten places: at most a seventh.
+#[derive(Clone, Copy)]
+struct Power {
+    value: u64,
+    ghost ok: { value ≤ 1428571428 },
+}
+
+impl Power {
+    // The product, to ten places: by a seventh at most a seventh of the first, by the square of one at most a forty-ninth.
+    fn times(self, other: Power) -> Power
+        ensures value { result.value ≡ product_of self.value other.value }
+        ensures seventh { 7 * result.value ≤ self.value }
+        ensures square { other.value ≤ 204081632 → 49 * result.value ≤ self.value }
+    {
+        Power {
+            value: self.value * other.value / ONE,
+        }
+    }
+}
+
 // z, the distance of two values over their sum, to ten places.
 fn ratio(before: IndexValue, after: IndexValue) -> Power
     requires { admitted before.value after.value ≡ true }
@@ -53,26 +73,6 @@ fn ratio(before: IndexValue, after: IndexValue) -> Power
     let (before, after) = (u64::from(before.value), u64::from(after.value));
     Power {
         value: before.abs_diff(after) * ONE / (before + after),
-    }
-}
-
-// z or a power of it, to ten places.
-#[derive(Clone, Copy)]
-struct Power {
-    value: u64,
-    ghost seventh: { value ≤ 1428571428 },
-}
-
-impl Power {
-    // The product, to ten places.
-    fn times(self, other: Power) -> Power
-        ensures value { result.value ≡ product_of self.value other.value }
-        ensures bound { 7 * result.value ≤ self.value }
-        ensures small { other.value ≤ 204081632 → 49 * result.value ≤ self.value }
-    {
-        Power {
-            value: self.value * other.value / ONE,
-        }
     }
 }
 

@@ -18,7 +18,7 @@ const TICK_SIZE: u64 = 5;
 const HALF_VEGA: u64 = 50_000;
 
 // A variance, in ten-thousandths of a point.
-#[derive(Clone, Copy)]
+#[derive(Clone, Copy, PartialEq, Eq)]
 pub struct Variance {
     pub value: u64,
     ghost ok: { value ≤ 2100000000 },
@@ -68,7 +68,6 @@ impl Returns {
     }
 
     // v squared for each return to come.
-    #[tactic(auto, using(crate::proofs::Quotients::square_each))]
     fn to_come_squares(self, tick: Tick) -> u64
         ensures value { result ≡ volatility_of tick.value * volatility_of tick.value * (self.expected.value - 1 - self.count) }
         ensures bound { result ≤ 400000000 * (self.expected.value - 1 - self.count) }

@@ -11,9 +11,8 @@ near P A F o h = omega (arith, ints)
 
 pub converted_bearing : (DF k k0 : ℕ) (A : ℤ) → DF ≤ 100000000 → k ≤ 2100000000 → k0 ≤ 2100000000 → nat_abs (bearing (converted DF k k0 A) A) ≤ 21000000005000
 converted_bearing DF k k0 A d u v =
-    let P : ℤ = pos DF *ℤ (pos k -ℤ pos k0) in
     let g : nat_abs (pos k -ℤ pos k0) ≤ 2100000000 = omega (arith, ints) in
-    let p : nat_abs P ≤ 210000000000000000 = rw (unsigned_abs-mul (pos DF) (pos k -ℤ pos k0)) (mul-le-mul d g) in
-    near P A (converted DF k k0 A) (signed_near (P -ℤ A *ℤ pos 10000 +ℤ pos 1000000000000000) 100000000 (lit< tt)) p
+    let P : ℤ = pos DF *ℤ (pos k -ℤ pos k0) in
+    near P A (converted DF k k0 A) (signed_near (P -ℤ A *ℤ pos 10000 +ℤ pos 1000000000000000) 100000000 (lit< tt)) (rw unsigned_abs-mul (mul-le-mul d g))
 
-pub ruleset signed = (to_z-of_z, *ℤ_comm)
+pub ruleset converting = (converted_bearing, to_z-of_z, *ℤ_comm)
