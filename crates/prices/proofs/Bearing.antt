@@ -15,4 +15,5 @@ converted_bearing DF k k0 A d u v =
     let P : ℤ = pos DF *ℤ (pos k -ℤ pos k0) in
     near P A (converted DF k k0 A) (signed_near (P -ℤ A *ℤ pos 10000 +ℤ pos 1000000000000000) 100000000 (lit< tt)) (rw unsigned_abs-mul (mul-le-mul d g))
 
-pub ruleset converting = (converted_bearing, to_z-of_z, *ℤ_comm)
+-- for the proofs of prices: a number passed on is that number
+pub ruleset pricing = (converted_bearing, to_z-of_z, *ℤ_comm)

@@ -43,7 +43,7 @@ pub fn mark(bid: Tick, offer: Tick) -> Tick
 
 impl Price {
     // The price of a variance k on a day with a discount factor.
-    #[tactic(auto, using(crate::proofs::Bearing::converting))]
+    #[tactic(auto, using(crate::proofs::Bearing::pricing))]
     pub fn converted(
         factor: DiscountFactor,
         variance: Variance,
@@ -61,6 +61,7 @@ impl Price {
     }
 
     // The final price, at the realised variance V.
+    #[tactic(auto, using(crate::proofs::Bearing::pricing))]
     pub fn final_price(realised: Variance, strike: Strike, accumulated: AccumulatedReturn) -> Price
         ensures { result.value ≡ final_of realised.value strike.value accumulated.value }
     {
