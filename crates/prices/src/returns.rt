@@ -53,7 +53,7 @@ struct Power {
 }
 
 impl Power {
-    // The product, to ten places: by a seventh at most a seventh of the first, by the square of one at most a forty-ninth.
+    // The product, to ten places: at most a seventh of the first, and a forty-ninth where the second is a square.
     fn times(self, other: Power) -> Power
         ensures value { result.value ≡ product_of self.value other.value }
         ensures seventh { 7 * result.value ≤ self.value }

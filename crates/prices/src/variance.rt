@@ -63,8 +63,8 @@ impl Returns {
         if to_come == 0 {
             return None;
         }
-        let money = u64::from(vega.value) * HALF_VEGA * self.expected_returns();
-        Some(money.div_ceil(volatility(tick) * to_come))
+        let vega = u64::from(vega.value) * HALF_VEGA * self.expected_returns();
+        Some(vega.div_ceil(volatility(tick) * to_come))
     }
 
     // v squared for each return to come.
