@@ -1,11 +1,8 @@
-use Rattle.std.proofs.Common.{refl, ap, ◌∙◌, w64, SFits, of_z, rules}
-use Rattle.std.proofs.lemmas.Int.{to_z-of_z}
-use Rattle.journal.specs.Lines.{written}
+use Rattle.std.proofs.Common.{◌∙◌, arith}
+use Rattle.std.proofs.lemmas.Slice.{put_mid-paste}
+use Rattle.journal.specs.Lines.{words_of, written}
 use Rattle.journal.proofs.journal.Journal.append.Goals as goal
 
-pub returns : goal.returns
+pub returns-clause-words : goal.returns-clause-words
 unfolding written
-returns c =
-    let f : SFits w64 c.args.payment.amount = search rules in
-    let bits = c.cast_unsigned-bits.ensures ∙ ap (of_z w64) (to_z-of_z w64 c.args.payment.amount f) in
-    record { words = rw bits; lines = refl; ends = (refl, refl); lent = refl }
+returns-clause-words c = put_mid-paste _ _ _ _ (words_of c.args.payment) 4 (c.copy_from_slice.ensures.after ∙ c.words_of.ensures) (omega arith) (omega arith)
