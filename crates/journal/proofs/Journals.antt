@@ -36,16 +36,12 @@ sum_128 t x i f h l =
 
 -- ---- a payment to an account
 
-total_told : (j : Journal) (a : ℕ) (b : ℤ) → total_of j a ≡ Some b → (from_to j.first j.last a ≡ true) × (b ≡ due (lines_of j) a) × Within b
-unfolding total_of
-total_told j a b e = elim (cases_Bool (from_to j.first j.last a)) [
-  | inl t ↦ (let r = if_told (due (lines_of j) a) b (rw t at e) in (t, r.0, r.1))
-  | inr t ↦ none_some b (rw t at e)
-]
-
 module _ (j : Journal) (a : ℕ) (b : ℤ) (e : total_of j a ≡ Some b) where
   pub told : (from_to j.first j.last a ≡ true) × (b ≡ due (lines_of j) a) × Within b
-  told = total_told j a b e
+  told = elim (cases_Bool (from_to j.first j.last a)) [
+    | inl t ↦ (let r = if_told (due (lines_of j) a) b (rw t at e) in (t, r.0, r.1))
+    | inr t ↦ none_some b (rw t at e)
+  ]
 
   pub small : a < parts
   small = let t = told.0 in grind (arith, nat_tests)
@@ -74,7 +70,6 @@ module _ (j k : Journal) (p : Payment) (b : ℤ) (e : total_of j p.account ≡ S
   same_accounts a = rw (first, last) refl
 
   total_here : total_of k p.account ≡ Some (b +ℤ p.amount)
-  unfolding total_of
   total_here =
       let t = told j p.account b e in
       let s = same_accounts p.account ∙ t.0 in
@@ -82,7 +77,6 @@ module _ (j k : Journal) (p : Payment) (b : ℤ) (e : total_of j p.account ≡ S
       rw (s, d) (if_inside (b +ℤ p.amount) new)
 
   total_there : (a : ℕ) → (a ≡ p.account → ⊥) → total_of k a ≡ total_of j a
-  unfolding total_of
   total_there a ne = rw (same_accounts a, ap (λ q. due q a) lines_after ∙ due_other (lines_of j) p a (λ q. ne (sym q))) refl
 
   pub raised : Raised (journal j) p.account p.amount (journal k)

@@ -36,7 +36,6 @@ bits_below (pos n) f = omega (arith, f.sfits)
 bits_below (negsuc n) f = omega (arith, f.sfits)
 
 pub payment_back : (p : Payment) → p.account < parts → SFits w64 p.amount → payment_in (words_of p) ≡ p
-unfolding payment_in
 payment_back p small fits =
     let line : ℕ → ℤ → Payment = λ a x. record { account = a; amount = x } in
     let a : part (word 1 p.account) ≡ p.account = omega arith in
@@ -49,17 +48,14 @@ module _ (ws : List ℕ) (n : ℕ) (p : Payment) (room : n < length ws / 4) wher
   wide = omega arith
 
   pub length-written : length (written ws n p) ≡ length ws
-  unfolding written
   length-written = length-paste ws (4 * n) (words_of p) 4 wide (omega arith)
 
   pub past_written : drop (4 * (n + 1)) (written ws n p) ≡ drop (4 * (n + 1)) ws
-  unfolding written
   past_written =
       let e : 4 * (n + 1) ≡ 4 * n + 4 = omega arith in
       rw e (drop-paste ws (4 * n) (words_of p) 4 (omega (arith, wide)) (omega arith))
 
   pub lines_written : p.account < parts → SFits w64 p.amount → lines_in (written ws n p) (n + 1) ≡ lines_in ws n ++ (p ∷ [])
-  unfolding written
   lines_written small fits =
       ap (lines_in (written ws n p)) (add-one n) ∙ ap (map payment_in) (one_more n ws (words_of p) (drop (4 * n + 4) ws) refl (omega (arith, wide)))
       ∙ map-append payment_in (first_chunks 4 n ws) (words_of p ∷ [])

@@ -32,7 +32,7 @@ words_of p =
     ∷ [])))
 
 -- the payment in the four words of a line
-unfoldable pub payment_in : List ℕ → Payment
+abbrev pub payment_in : List ℕ → Payment
 payment_in line = record {
   account = part (slice_index line 0);
   amount = amount_of ((slice_index line 1 % 256 * parts + part (slice_index line 2)) * parts + part (slice_index line 3));
@@ -43,5 +43,5 @@ abbrev pub lines_in : List ℕ → ℕ → List Payment
 lines_in ws n = map payment_in (first_chunks 4 n ws)
 
 -- the words ws with a payment in the line n
-unfoldable pub written : List ℕ → ℕ → Payment → List ℕ
+abbrev pub written : List ℕ → ℕ → Payment → List ℕ
 written ws n p = take (4 * n) ws ++ words_of p ++ drop (4 * n + 4) ws

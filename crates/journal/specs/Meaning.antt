@@ -18,7 +18,7 @@ abbrev pub from_to : ℕ → ℕ → ℕ → Bool
 from_to first last a = (admitted first && admitted last) && (nat_le first a && nat_le a last)
 
 -- an account's balance is the sum of its lines
-unfoldable pub total_of : Journal → ℕ → Option ℤ
+abbrev pub total_of : Journal → ℕ → Option ℤ
 total_of j a = cond (from_to j.first j.last a) (if_within (due (lines_of j) a)) None
 
 -- the lines left

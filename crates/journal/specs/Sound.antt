@@ -10,7 +10,6 @@ use Rattle.journal.specs.declared.journal.Journal.{Journal}
 use Rattle.journal.specs.Meaning.{from_to, lines_of, total_of}
 
 pub total_within : (j : Journal) (a : ℕ) → Within (unwrap_or (total_of j a) (pos 0))
-unfolding total_of
 total_within j a = value_under (from_to j.first j.last a) (if_within (due (lines_of j) a)) (value_within (due (lines_of j) a))
 
 pub journal_sound : SoundReading (λ j. reading_of (total_of j))

@@ -37,6 +37,7 @@ fn balance_of_total(total: i128) -> Option<i64>
 }
 
 impl<'a> Journal<'a> {
+    #[tactic(auto, unfolding(ledger::specs::Totals::if_within))]
     // A journal with no line. It knows the accounts from first to last, but none if one of the two is no account number.
     pub fn new(words: &'a mut [u32], first: u32, last: u32) -> Journal<'a>
         ensures words { result.words.now ≡ words.old }

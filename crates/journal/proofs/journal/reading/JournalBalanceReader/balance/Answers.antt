@@ -5,12 +5,10 @@ use Rattle.std.proofs.lemmas.List.{take_all}
 use Rattle.ledger.specs.Payments.{due}
 use Rattle.ledger.specs.Totals.{if_within}
 use Rattle.journal.specs.Lines.{payment_in}
-use Rattle.journal.specs.Meaning.{total_of}
 use Rattle.journal.proofs.Journals.{sum_128, sum_more}
 use Rattle.journal.proofs.journal.reading.JournalBalanceReader.balance.Goals as goal
 
 pub returns-then-not-spans : goal.returns-then-not-spans
-unfolding total_of
 returns-then-not-spans c = rw (sym c.if-not-spans.ensures) refl
 
 pub loop-line-preserved : goal.loop-line-preserved
@@ -24,7 +22,6 @@ loop-line-preserved c =
     rw (x, more.0) (rw (c.loop-line.invariant.0, c.pays.ensures) (sym (sum_more ws i c.args.account c.loop-line-test.true)), more.1)
 
 pub returns : goal.returns
-unfolding total_of
 returns c =
     let t = c.loop-line.invariant.0 ∙ ap (λ q. due (map payment_in q) c.args.account) (take_all _ _ c.loop-line-test.false ∙ c.lines-line-items.ensures) in
     rw (c.balance_of_total.ensures, sym c.if-not-spans.ensures) (ap if_within t)

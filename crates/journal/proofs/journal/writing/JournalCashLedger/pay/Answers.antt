@@ -23,7 +23,7 @@ returns-in_err-check-clause-pays c =
     let p = err_from_is_err_and c.from_residual-in_err-check.result c.from_residual-in_err-check.ensures.1 in
     let e = sym c.balance.ensures ∙ c.in_ok-balance.ensures.ok_part in
     let k = rw c.terms.ensures at c.in_err-check.ensures in
-    rw (p.1, p.2) (known_fault _ _ _ e _ c.ranges.amount ∙ verdict_failed tt _ _ (sym k), same_self _)
+    rw (p.1, p.2) (known_fault c.args.self.now _ _ e _ c.ranges.amount ∙ verdict_failed tt _ _ (sym k), same_self _)
 
 pub append-requires-clause-account : goal.append-requires-clause-account
 append-requires-clause-account c = small c.args.self.now _ _ (sym c.balance.ensures ∙ c.in_ok-balance.ensures.ok_part)
@@ -33,7 +33,7 @@ returns-then-not-is_zero c =
     let j = c.args.self.now in
     let p : Payment = record { account = c.args.account; amount = c.args.amount } in
     let e = sym c.balance.ensures ∙ c.in_ok-balance.ensures.ok_part in
-    let t = taken _ _ _ e _ c.ranges.amount (verdict_passed tt tt _ (sym (rw c.terms.ensures at c.in_ok-check.ensures))) in
+    let t = taken c.args.self.now _ _ e _ c.ranges.amount (verdict_passed tt tt _ (sym (rw c.terms.ensures at c.in_ok-check.ensures))) in
     let same = to_z-of_z w64 c.args.amount c.ranges.amount in
     let zero = c.if-not-is_zero.ensures ∙ ap is_zero same in
     let a = c.append.ensures in
@@ -47,6 +47,6 @@ returns-then-not-is_zero c =
 pub returns-else-not-is_zero-clause-pays : goal.returns-else-not-is_zero-clause-pays
 returns-else-not-is_zero-clause-pays c =
     let e = sym c.balance.ensures ∙ c.in_ok-balance.ensures.ok_part in
-    let t = taken _ _ _ e _ c.ranges.amount (verdict_passed tt tt _ (sym (rw c.terms.ensures at c.in_ok-check.ensures))) in
+    let t = taken c.args.self.now _ _ e _ c.ranges.amount (verdict_passed tt tt _ (sym (rw c.terms.ensures at c.in_ok-check.ensures))) in
     let zero = c.if-not-is_zero.ensures ∙ ap is_zero (to_z-of_z w64 c.args.amount c.ranges.amount) in
     (t.0, unraised _ _ _ (sym zero))
