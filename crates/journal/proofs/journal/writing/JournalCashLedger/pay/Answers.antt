@@ -7,7 +7,7 @@ use Rattle.faults.proofs.Rows.{verdict_failed, verdict_passed}
 use Rattle.ledger.specs.declared.payment.Payment.{Payment}
 use Rattle.ledger.specs.Limits.{is_zero}
 use Rattle.ledger.proofs.Refused.{same_self, unknown_refused}
-use Rattle.journal.proofs.Journals.{known_fault, notes, raised, small, taken, unraised}
+use Rattle.journal.proofs.Journals.{known_fault, notes, raised, taken, unraised}
 use Rattle.journal.proofs.journal.writing.JournalCashLedger.pay.Goals as goal
 
 pub returns-in_err-balance-clause-pays : goal.returns-in_err-balance-clause-pays
@@ -24,9 +24,6 @@ returns-in_err-check-clause-pays c =
     let e = sym c.balance.ensures ∙ c.in_ok-balance.ensures.ok_part in
     let k = rw c.terms.ensures at c.in_err-check.ensures in
     rw (p.1, p.2) (known_fault c.args.self.now _ _ e _ c.ranges.amount ∙ verdict_failed tt _ _ (sym k), same_self _)
-
-pub append-requires-clause-account : goal.append-requires-clause-account
-append-requires-clause-account c = small c.args.self.now _ _ (sym c.balance.ensures ∙ c.in_ok-balance.ensures.ok_part)
 
 pub returns-then-not-is_zero : goal.returns-then-not-is_zero
 returns-then-not-is_zero c =
