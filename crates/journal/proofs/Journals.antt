@@ -1,6 +1,5 @@
 -- A journal's balances, and what a payment does to them.
-use Rattle.std.proofs.Common.{◌≡◌, ℕ, ◌+◌, ◌*◌, ◌/◌, ◌<◌, ◌≤◌, true, List, [], ◌∷◌, ◌++◌, map, length, get_or, take, ℤ, pos, ◌+ℤ◌, nat_abs, is_some, Some, None, unwrap_or, sym, refl, ap, ◌∙◌, inl, inr, arith, lit≤, leb-true, w64, SFits, to_z, of_z}
-use mir.Syntax.{w128}
+use Rattle.std.proofs.Common.{◌≡◌, ℕ, ◌+◌, ◌/◌, ◌<◌, true, List, [], ◌∷◌, ◌++◌, map, length, get_or, take, ℤ, pos, ◌+ℤ◌, is_some, Some, None, unwrap_or, sym, refl, ap, ◌∙◌, inl, inr, arith, lit≤, leb-true, w64, SFits}
 use Rattle.std.proofs.lemmas.List.{append-nil, map_more}
 use Rattle.std.proofs.lemmas.Int.{to_z-of_z, ints}
 use Rattle.std.proofs.lemmas.Bool.{cases_Bool, cases_eq}
@@ -23,16 +22,6 @@ use Rattle.journal.proofs.Lines.{length-written, lines_written, past_written}
 
 pub sum_more : (ws : List (List ℕ)) (i a : ℕ) → i < length ws → due (map payment_in (take (i + 1) ws)) a ≡ due (map payment_in (take i ws)) a +ℤ due_of (payment_in (get_or ws i [])) a
 sum_more ws i a h = ap (λ q. due q a) (map_more payment_in ws i [] h) ∙ due_one _ (payment_in (get_or ws i [])) a
-
-fits_128 : (z : ℤ) → nat_abs z < 170141183460469231731687303715884105728 → SFits w128 z
-fits_128 z h = omega (arith, ints)
-
--- one turn of the loop that sums
-pub sum_128 : (t x : ℤ) (i : ℕ) → SFits w64 x → nat_abs t ≤ i * 9223372036854775808 → i < 18446744073709551615 → (to_z w128 (of_z w128 (t +ℤ to_z w128 (of_z w128 x))) ≡ t +ℤ x) × (nat_abs (t +ℤ x) ≤ (i + 1) * 9223372036854775808)
-sum_128 t x i f h l =
-    let m : nat_abs x ≤ 9223372036854775808 = omega (arith, ints, f.sfits) in
-    let b : nat_abs (t +ℤ x) ≤ (i + 1) * 9223372036854775808 = omega (arith, ints) in
-    (ap (λ z. to_z w128 (of_z w128 (t +ℤ z))) (to_z-of_z w128 x (fits_128 x (omega arith))) ∙ to_z-of_z w128 (t +ℤ x) (fits_128 (t +ℤ x) (omega arith)), b)
 
 -- ---- a payment to an account
 
