@@ -1,6 +1,6 @@
 -- A journal's balances, and what a payment does to them.
 use Rattle.std.proofs.Common.{◌≡◌, ℕ, ◌+◌, ◌/◌, ◌<◌, true, List, [], ◌∷◌, ◌++◌, map, length, get_or, take, ℤ, pos, ◌+ℤ◌, is_some, Some, None, unwrap_or, sym, refl, ap, ◌∙◌, inl, inr, arith, lit≤, leb-true, w64, SFits}
-use Rattle.std.proofs.lemmas.List.{append-nil, map_more}
+use Rattle.std.proofs.lemmas.List.{map_more}
 use Rattle.std.proofs.lemmas.Int.{to_z-of_z, ints}
 use Rattle.std.proofs.lemmas.Bool.{cases_Bool, cases_eq}
 use Rattle.std.proofs.lemmas.Bool.Decides.{nat_tests}
@@ -14,8 +14,8 @@ use Rattle.ledger.proofs.Money.{back, back_within, fits_within, reached_within, 
 use Rattle.ledger.proofs.Paid.{due_here, due_one, due_other, zero_is}
 use Rattle.ledger.proofs.Totals.{if_inside, if_told, none_some}
 use Rattle.journal.specs.declared.journal.Journal.{Journal}
-use Rattle.journal.specs.Lines.{parts, payment_in, written}
-use Rattle.journal.specs.Meaning.{Notes, capacity_of, from_to, journal, lines_of, terms_of, total_of}
+use Rattle.journal.specs.Lines.{parts, payment_in}
+use Rattle.journal.specs.Meaning.{Appended, Notes, capacity_of, from_to, journal, lines_of, terms_of, total_of}
 use Rattle.journal.proofs.Lines.{length-written, lines_written, past_written}
 
 -- ---- the sum of the lines
@@ -51,12 +51,12 @@ module _ (j : Journal) (a : ℕ) (b : ℤ) (e : total_of j a ≡ Some b) where
 
 -- ---- a line more
 
-module _ (j k : Journal) (p : Payment) (b : ℤ) (e : total_of j p.account ≡ Some b) (fits : SFits w64 p.amount) (new : Within (b +ℤ p.amount)) (room : j.lines < length j.words.now / 4) (words : k.words.now ≡ written j.words.now j.lines p) (count : k.lines ≡ j.lines + 1) (first : k.first ≡ j.first) (last : k.last ≡ j.last) where
+module _ (j k : Journal) (p : Payment) (b : ℤ) (e : total_of j p.account ≡ Some b) (fits : SFits w64 p.amount) (new : Within (b +ℤ p.amount)) (room : j.lines < length j.words.now / 4) (more : Appended j p k) where
   lines_after : lines_of k ≡ lines_of j ++ (p ∷ [])
-  lines_after = rw (words, count) (lines_written j.words.now j.lines p room (small j p.account b e) fits)
+  lines_after = rw (more.words, more.lines) (lines_written j.words.now j.lines p room (small j p.account b e) fits)
 
   same_accounts : (a : ℕ) → from_to k.first k.last a ≡ from_to j.first j.last a
-  same_accounts a = rw (first, last) refl
+  same_accounts a = rw (more.first, more.last) refl
 
   total_here : total_of k p.account ≡ Some (b +ℤ p.amount)
   total_here =
@@ -76,18 +76,15 @@ module _ (j k : Journal) (p : Payment) (b : ℤ) (e : total_of j p.account ≡ S
     ];
     here = rw (total_here, e) refl;
     others = λ a ne. ap (λ o. unwrap_or o (pos 0)) (total_there a ne);
-    capacity = inr (omega (arith, ap length words ∙ length-written j.words.now j.lines p room));
+    capacity = inr (omega (arith, more.lines, ap length more.words ∙ length-written j.words.now j.lines p room));
     lowest = refl;
     highest = refl;
   }
 
   pub notes : Notes j (p ∷ []) k
-  notes = record { words = words; count = count; lines = lines_after; past = rw (words, count) (past_written j.words.now j.lines p room) }
+  notes = record { words = more.words; count = more.lines; lines = lines_after; past = rw (more.words, more.lines) (past_written j.words.now j.lines p room) }
 
--- nothing written
-pub no_notes : (j : Journal) → Notes j [] j
-no_notes j = record { words = refl; count = omega arith; lines = sym (append-nil (lines_of j)); past = refl }
-
+-- a payment of zero
 pub unraised : (m : Meaning) (a : ℕ) (x : ℤ) → is_zero x ≡ true → Raised m a x m
 unraised m a x z =
     let e = zero_is x z in

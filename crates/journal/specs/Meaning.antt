@@ -31,6 +31,14 @@ terms_of j = widest (capacity_of j)
 abbrev pub journal : Journal → Meaning
 journal j = meaning total_of terms_of j
 
+-- the journal j became k by a line of p after its others, in the same words
+pub record Appended (j : Journal) (p : Payment) (k : Journal) : Type 0 where
+  pub words : k.words.now ≡ written j.words.now j.lines p
+  pub lines : k.lines ≡ j.lines + 1
+  pub first : k.first ≡ j.first
+  pub last : k.last ≡ j.last
+  pub lent : k.words.ghost_name ≡ j.words.ghost_name
+
 -- the lines that a payment adds: one, unless it is refused or zero
 abbrev pub noted : {U : Type 0} → ℕ → ℤ → Result U Fault → List Payment
 noted a x (Ok u) = cond (is_zero x) [] (record { account = a; amount = x } ∷ [])

@@ -2,8 +2,8 @@
 ghost use Rattle.std.specs.Prelude.{◌≡◌, ◌+◌, ◌/◌, ◌<◌, length};
 ghost use Rattle.ledger.specs.Payments.{Pays};
 ghost use Rattle.ledger.specs.Sound.{widest_bounded};
-ghost use Rattle.journal.specs.Lines.{parts, written};
-ghost use Rattle.journal.specs.Meaning.{Notes, capacity_of, journal, noted, terms_of};
+ghost use Rattle.journal.specs.Lines.{parts};
+ghost use Rattle.journal.specs.Meaning.{Appended, Notes, capacity_of, journal, noted, terms_of};
 
 use super::Journal;
 use crate::line::{LINE, words_of};
@@ -17,10 +17,7 @@ impl<'a> Journal<'a> {
     fn append(&mut self, payment: Payment)
         requires account { payment.account < parts }
         requires room { self.old.lines < length self.old.words.now / 4 }
-        ensures words { self.new.words.now ≡ written self.old.words.now self.old.lines payment }
-        ensures lines { self.new.lines ≡ self.old.lines + 1 }
-        ensures ends { (self.new.first ≡ self.old.first) × (self.new.last ≡ self.old.last) }
-        ensures lent { self.new.words.ghost_name ≡ self.old.words.ghost_name }
+        ensures { Appended self.old payment self.new }
     {
         let start = LINE * self.lines;
         self.words[start..start + LINE].copy_from_slice(&words_of(payment));

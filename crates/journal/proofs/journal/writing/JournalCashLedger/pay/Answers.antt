@@ -33,12 +33,11 @@ returns-then-not-is_zero c =
     let t = taken c.args.self.now _ _ e _ c.ranges.amount (verdict_passed tt tt _ (sym (rw c.terms.ensures at c.in_ok-check.ensures))) in
     let same = to_z-of_z w64 c.args.amount c.ranges.amount in
     let zero = c.if-not-is_zero.ensures ∙ ap is_zero same in
-    let a = c.append.ensures in
-    let words = rw same at a.words in
+    let more = rw same at c.append.ensures in
     record {
-      pays = (t.0, raised j c.append.new.self p _ e c.ranges.amount t.1 t.2 words a.lines a.ends.0 a.ends.1);
-      notes = rw (sym zero) (notes j c.append.new.self p _ e c.ranges.amount t.1 t.2 words a.lines a.ends.0 a.ends.1);
-      lent = a.lent;
+      pays = (t.0, raised j c.append.new.self p _ e c.ranges.amount t.1 t.2 more);
+      notes = rw (sym zero) (notes j c.append.new.self p _ e c.ranges.amount t.1 t.2 more);
+      lent = more.lent;
     }
 
 pub returns-else-not-is_zero-clause-pays : goal.returns-else-not-is_zero-clause-pays
