@@ -1,19 +1,18 @@
 -- What a binary search by key finds in a rising list.
-use Rattle.std.proofs.Common.{◌≡◌, ℕ, zero, suc, ◌<◌, ◌≤◌, true, ltb, List, [], ◌∷◌, length, get_or, Result, Ok, Err, MatchResult, sym, ap, arith}
+use Rattle.std.proofs.Common.{◌≡◌, ℕ, zero, suc, ◌<◌, ◌≤◌, true, ltb, List, [], ◌∷◌, length, get_or, Result, Ok, Err, MatchResult, sym, refl, ap, arith}
 use Rattle.std.specs.List.Sorted.{IsSearchInRange, IsBinarySearchResult, IsNonDecreasingBy}
 use Rattle.std.specs.Ordering.{nat_cmp, ordering_index}
 use Rattle.std.proofs.lemmas.Bool.{and_parts}
 use Rattle.std.proofs.lemmas.Bool.Decides.{nat_tests}
 use Rattle.std.proofs.lemmas.Cmp.{ranked}
+use Rattle.std.proofs.lemmas.List.Recursion.{and_at}
 use Rattle.table.specs.declared.keyed.Keyed.{Keyed}
 use Rattle.table.specs.Places.{Stands, Lacks}
 use Rattle.table.specs.Rising.{above, rising}
 
 module _ {V : Type 0} where
   above_at : (k : ℕ) (xs : List (Keyed V)) (i : ℕ) (d : Keyed V) → above k xs ≡ true → i < length xs → k < (get_or xs i d).key
-  above_at k [] i d h lt = absurd (omega arith)
-  above_at k (x ∷ xs) zero d h lt = grind (arith, nat_tests)
-  above_at k (x ∷ xs) (suc i) d h lt = above_at k xs i d (and_parts (ltb k x.key) (above k xs) h).1 (omega arith)
+  above_at k xs i d h lt = let at = and_at (above k) (λ x. ltb k x.key) refl (λ _ _. refl) xs i d lt h in grind (arith, nat_tests)
 
   keys_rise : (xs : List (Keyed V)) (i j : ℕ) (d : Keyed V) → rising xs ≡ true → i < j → j < length xs → (get_or xs i d).key < (get_or xs j d).key
   keys_rise [] i j d up lt in' = absurd (omega arith)

@@ -14,11 +14,7 @@ module _ {V : Type 0} (f : Keyed V → ℤ) where
       sum_of f (cond b (x ∷ put_in r xs) (r ∷ cond (eqb x.key r.key) xs (x ∷ xs)))
       ≡ (f x +ℤ sum_of f xs) -ℤ amount_of f (cond b (find_in r.key xs) (cond (eqb x.key r.key) (Some x) None)) +ℤ f r) [
         | true ↦ omega (arith, ints)
-        | false ↦ elim (eqb x.key r.key) as (λ e.
-            f r +ℤ sum_of f (cond e xs (x ∷ xs)) ≡ (f x +ℤ sum_of f xs) -ℤ amount_of f (cond e (Some x) None) +ℤ f r) [
-              | true ↦ omega (arith, ints)
-              | false ↦ omega (arith, ints)
-            ]
+        | false ↦ grind (arith, ints, nat_tests)
       ]
 
   pub sum-take : (k : ℕ) (xs : List (Keyed V)) → sum_of f (take_out k xs) ≡ sum_of f xs -ℤ amount_of f (find_in k xs)

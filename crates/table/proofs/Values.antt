@@ -1,7 +1,8 @@
 -- A value set at a place, and one that is set at each.
 use Rattle.std.proofs.Common.{◌≡◌, ℕ, zero, suc, ◌<◌, ◌≤◌, List, [], ◌∷◌, ◌++◌, length, map, get_or, take, drop, set, Some, sym, refl, ap, ◌∙◌, arith}
 use Rattle.std.specs.List.{slice_get}
-use Rattle.std.proofs.lemmas.List.{append-nil, drop_all, length-map, take_all}
+use Rattle.std.proofs.lemmas.Grind.{common_steps}
+use Rattle.std.proofs.lemmas.List.{drop_all, length-map, take_all}
 use Rattle.table.specs.declared.keyed.Keyed.{Keyed}
 use Rattle.table.specs.Records.{each_value, key_of, set_in}
 
@@ -34,4 +35,4 @@ module _ {V : Type 0} (v : V) where
 
 -- a loop that sets f of each value, once every place is done
 pub each_value_all : {V : Type 0} (f : V → V) (xs : List (Keyed V)) (i : ℕ) → length xs ≤ i → each_value f (take i xs) ++ drop i xs ≡ each_value f xs
-each_value_all f xs i past = ap (λ q. each_value f (take i xs) ++ q) (drop_all i xs past) ∙ append-nil (each_value f (take i xs)) ∙ ap (each_value f) (take_all i xs past)
+each_value_all f xs i past = grind (arith, common_steps, drop_all, take_all)

@@ -25,16 +25,12 @@ fn check_accounts(
 ) -> Result<(), Refused>
     ensures { result ≡ accounts_answer (min (room accounts.now) limit) buyer seller (records accounts.now) }
 {
-    let free = accounts
-        .capacity()
-        .min(limit)
-        .saturating_sub(accounts.count());
-    let buyer_new = accounts.find(buyer.key).is_none();
-    let seller_new = accounts.find(seller.key).is_none() & (buyer.key != seller.key);
-    if buyer_new & (free == 0) {
+    let places = accounts.capacity().min(limit);
+    if !accounts.has_place(buyer.key, places) {
         return Err(Refused::NoAccountPlace(buyer.key));
     }
-    if seller_new & (free <= buyer_new as usize) {
+    let taken = usize::from(accounts.find(buyer.key).is_none());
+    if seller.key != buyer.key && !accounts.has_place(seller.key, places - taken) {
         return Err(Refused::NoAccountPlace(seller.key));
     }
     Ok(())

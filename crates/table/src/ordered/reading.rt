@@ -31,8 +31,7 @@ impl<'a, V: Copy> Table<'a, V> {
         ensures records { result.now ≡ records self.now }
         ensures within { length result.now ≤ room self.now }
     {
-        let places = &*self.places;
-        &places[0..self.count]
+        &self.places[..self.count]
     }
 
     // How many records the table holds.

@@ -2,7 +2,7 @@
 ghost use Rattle.std.specs.Prelude.{◌≡◌, ◌<◌, true, [], length, is_ok, if◌then◌else◌, map, nat_lt};
 ghost use Rattle.table.specs.Laws.{AfterPut, AfterTake};
 ghost use Rattle.table.specs.Places.{Lacks, Stands};
-ghost use Rattle.table.specs.Records.{each_value, find_in, key_of, put_in, set_in, take_out};
+ghost use Rattle.table.specs.Records.{Computes, each_value, find_in, key_of, put_in, set_in, take_out};
 ghost use Rattle.table.specs.View.{LaysRecords, SamePlaces, memory, put_answer, records, room};
 
 use super::{Full, Stored, Table};
@@ -12,7 +12,7 @@ use crate::keyed::Keyed;
 fn map_each<V: Copy, F: Fn(V) -> V>(records: &mut [Keyed<V>], f: F)
     requires { F.IsAlwaysCallable f }
     ensures keys { map key_of records.new ≡ map key_of records.old }
-    ensures values { (g : V → V) → ((v w : V) → F.post f v w → w ≡ g v) → records.new ≡ each_value g records.old }
+    ensures values { (g : V → V) → Computes (F.post f) g → records.new ≡ each_value g records.old }
 {
     for record in records.iter_mut() {
         record.value = f(record.value);
@@ -47,12 +47,11 @@ impl<'a, V: Copy> Table<'a, V> {
     pub fn map_values<F: Fn(V) -> V>(&mut self, f: F)
         requires { F.IsAlwaysCallable f }
         ensures keys { map key_of (records self.new) ≡ map key_of (records self.old) }
-        ensures values { (g : V → V) → ((v w : V) → F.post f v w → w ≡ g v) → records self.new ≡ each_value g (records self.old) }
+        ensures values { (g : V → V) → Computes (F.post f) g → records self.new ≡ each_value g (records self.old) }
         ensures memory { LaysRecords self.old self.new }
         ensures places { SamePlaces self.old self.new }
     {
-        let count = self.count;
-        map_each(&mut self.places[0..count], f);
+        map_each(&mut self.places[..self.count], f);
     }
 
     // Puts a record in place of the record of its key, or at the place of a new key, while a place is left.
@@ -107,7 +106,8 @@ impl<'a, V: Copy> Table<'a, V> {
         self.count = count + 1;
     }
 
-    // Drops the record of a key from its place, and moves those above down by one. The last one stays in its old place too, which does not count.
+    // Drops the record of a key from its place, and moves those above down by one. The last stays in its old place too,
+    // where it does not count.
     fn remove(&mut self, place: usize, key: u32)
         requires { Stands key (records self.old) place }
         ensures records { records self.new ≡ take_out key (records self.old) }

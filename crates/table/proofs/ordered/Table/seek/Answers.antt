@@ -10,4 +10,4 @@ returns g c =
     let t = c.args.self.now in
     let facts = c.binary_search_by_key.ensures in
     let by_key = facts.position (λ x. x.key) (answers_always _ _ _ (λ f a r h called. search rules)) in
-    searched (records t) t.order c.args.key _ (rw c.records.ensures.records at facts.bound) (rw c.records.ensures.records at by_key)
+    searched (records t) t.order c.args.key c.binary_search_by_key.result (rw c.records.ensures.records at facts.bound) (rw c.records.ensures.records at by_key)
