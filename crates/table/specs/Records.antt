@@ -2,6 +2,9 @@
 use Rattle.std.specs.Prelude.{ℕ, zero, suc, cond, List, [], ◌∷◌, map, ℤ, pos, ◌+ℤ◌, Some, None, Option, ◌==◌, nat_lt}
 use Rattle.table.specs.declared.keyed.Keyed.{Keyed}
 
+abbrev pub key_of : {V : Type 0} → Keyed V → ℕ
+key_of x = x.key
+
 -- the record of the key k
 abbrev pub find_in : {V : Type 0} → ℕ → List (Keyed V) → Option (Keyed V)
 find_in k [] = None

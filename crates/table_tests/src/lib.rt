@@ -2,9 +2,10 @@
 #![tactic(auto)]
 
 ghost use Rattle.std.specs.Prelude.{◌≡◌, min, [], ◌∷◌, is_ok, if◌then◌else◌};
-ghost use Rattle.table.specs.Records.{put_in};
-ghost use Rattle.table.specs.View.{laid, memory, records, room};
+ghost use Rattle.table.specs.Records.{each_value, put_in};
+ghost use Rattle.table.specs.View.{SamePlaces, laid, memory, records, room};
 ghost use Rattle.table_tests.specs.Entering.{accounts_answer, enter_answer};
+ghost use Rattle.table_tests.specs.Costs.{costing};
 
 use positions::{Account, Trade};
 use table::{Full, Keyed, Stored, Table};
@@ -53,8 +54,7 @@ pub fn enter(
     ensures accounts { records accounts.new ≡ (if is_ok result then put_in seller (put_in buyer (records accounts.old)) else records accounts.old) }
     ensures trades { records trades.new ≡ (if is_ok result then put_in trade (records trades.old) else records trades.old) }
     ensures memories { (memory accounts.new ≡ (if is_ok result then laid (records accounts.new) (memory accounts.old) else memory accounts.old)) × (memory trades.new ≡ (if is_ok result then laid (records trades.new) (memory trades.old) else memory trades.old)) }
-    ensures rooms { (room accounts.new ≡ room accounts.old) × (room trades.new ≡ room trades.old) }
-    ensures lenders { (accounts.new.places.ghost_name ≡ accounts.old.places.ghost_name) × (trades.new.places.ghost_name ≡ trades.old.places.ghost_name) }
+    ensures places { SamePlaces accounts.old accounts.new × SamePlaces trades.old trades.new }
 {
     check_accounts(accounts, limit, buyer, seller)?;
     if !trades.has_place(trade.key, limit) {
@@ -64,6 +64,21 @@ pub fn enter(
     let _ = accounts.put(seller);
     let _ = trades.put(trade);
     Ok(())
+}
+
+// The account at another cost.
+fn at_cost(account: Account, cost: i64) -> Account
+    ensures { result ≡ costing cost account }
+{
+    Account { cost, ..account }
+}
+
+// Sets the cost of every account, by a closure that captures it.
+pub fn set_costs(accounts: &mut Table<'_, Account>, cost: i64)
+    ensures records { records accounts.new ≡ each_value (costing cost) (records accounts.old) }
+    ensures places { SamePlaces accounts.old accounts.new }
+{
+    accounts.map_values(|account| at_cost(account, cost));
 }
 
 // What the lender holds once the table is gone: the record in the first place, if there is one, and the rest as it was.

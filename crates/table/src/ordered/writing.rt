@@ -1,20 +1,30 @@
 // The calls that change a table: each lays the records that it leaves over the memory, and leaves the places beyond.
-ghost use Rattle.std.specs.Prelude.{◌≡◌, ◌<◌, true, [], length, is_ok, if◌then◌else◌, nat_lt};
+ghost use Rattle.std.specs.Prelude.{◌≡◌, ◌<◌, true, [], length, is_ok, if◌then◌else◌, map, nat_lt};
 ghost use Rattle.table.specs.Laws.{AfterPut, AfterTake};
 ghost use Rattle.table.specs.Places.{Lacks, Stands};
-ghost use Rattle.table.specs.Records.{find_in, put_in, set_in, take_out};
-ghost use Rattle.table.specs.View.{laid, memory, put_answer, records, room};
+ghost use Rattle.table.specs.Records.{each_value, find_in, key_of, put_in, set_in, take_out};
+ghost use Rattle.table.specs.View.{SamePlaces, laid, memory, put_answer, records, room};
 
 use super::{Full, Stored, Table};
 use crate::keyed::Keyed;
+
+// Sets each record's value to what `f` makes of it.
+fn map_each<V: Copy, F: Fn(V) -> V>(records: &mut [Keyed<V>], f: F)
+    requires { F.IsAlwaysCallable f }
+    ensures keys { map key_of records.new ≡ map key_of records.old }
+    ensures values { (g : V → V) → ((v w : V) → F.post f v w → w ≡ g v) → records.new ≡ each_value g records.old }
+{
+    for record in records.iter_mut() {
+        record.value = f(record.value);
+    }
+}
 
 impl<'a, V: Copy> Table<'a, V> {
     // Empties the table; the memory stays as it was.
     pub fn clear(&mut self)
         ensures records { records self.new ≡ [] }
         ensures memory { memory self.new ≡ memory self.old }
-        ensures room { room self.new ≡ room self.old }
-        ensures lender { self.new.places.ghost_name ≡ self.old.places.ghost_name }
+        ensures places { SamePlaces self.old self.new }
     {
         self.count = 0;
     }
@@ -24,8 +34,7 @@ impl<'a, V: Copy> Table<'a, V> {
         ensures answer { result ≡ nat_lt place (length (records self.old)) }
         ensures records { records self.new ≡ set_in place value (records self.old) }
         ensures memory { memory self.new ≡ laid (records self.new) (memory self.old) }
-        ensures room { room self.new ≡ room self.old }
-        ensures lender { self.new.places.ghost_name ≡ self.old.places.ghost_name }
+        ensures places { SamePlaces self.old self.new }
     {
         if place < self.count {
             self.places[place].value = value;
@@ -34,13 +43,24 @@ impl<'a, V: Copy> Table<'a, V> {
         false
     }
 
+    // Sets each value to what `f` makes of it; the keys stay. `values` holds of any function g that `f` computes.
+    pub fn map_values<F: Fn(V) -> V>(&mut self, f: F)
+        requires { F.IsAlwaysCallable f }
+        ensures keys { map key_of (records self.new) ≡ map key_of (records self.old) }
+        ensures values { (g : V → V) → ((v w : V) → F.post f v w → w ≡ g v) → records self.new ≡ each_value g (records self.old) }
+        ensures memory { memory self.new ≡ laid (records self.new) (memory self.old) }
+        ensures places { SamePlaces self.old self.new }
+    {
+        let count = self.count;
+        map_each(&mut self.places[0..count], f);
+    }
+
     // Puts a record in place of the record of its key, or at the place of a new key, while a place is left.
     pub fn put(&mut self, incoming: Keyed<V>) -> Result<Stored, Full>
         ensures answer { result ≡ put_answer (room self.old) incoming (records self.old) }
         ensures records { records self.new ≡ (if is_ok result then put_in incoming (records self.old) else records self.old) }
         ensures memory { memory self.new ≡ laid (records self.new) (memory self.old) }
-        ensures room { room self.new ≡ room self.old }
-        ensures lender { self.new.places.ghost_name ≡ self.old.places.ghost_name }
+        ensures places { SamePlaces self.old self.new }
         ensures law { is_ok result ≡ true → AfterPut incoming (records self.old) (records self.new) }
     {
         match self.seek(incoming.key) {
@@ -63,8 +83,7 @@ impl<'a, V: Copy> Table<'a, V> {
         ensures answer { result ≡ find_in key (records self.old) }
         ensures records { records self.new ≡ take_out key (records self.old) }
         ensures memory { memory self.new ≡ laid (records self.new) (memory self.old) }
-        ensures room { room self.new ≡ room self.old }
-        ensures lender { self.new.places.ghost_name ≡ self.old.places.ghost_name }
+        ensures places { SamePlaces self.old self.new }
         ensures law { AfterTake key (records self.old) (records self.new) }
     {
         match self.seek(key) {
@@ -83,8 +102,7 @@ impl<'a, V: Copy> Table<'a, V> {
         requires free { length (records self.old) < room self.old }
         ensures records { records self.new ≡ put_in incoming (records self.old) }
         ensures memory { memory self.new ≡ laid (records self.new) (memory self.old) }
-        ensures room { room self.new ≡ room self.old }
-        ensures lender { self.new.places.ghost_name ≡ self.old.places.ghost_name }
+        ensures places { SamePlaces self.old self.new }
     {
         let count = self.count;
         self.count = place;
@@ -102,8 +120,7 @@ impl<'a, V: Copy> Table<'a, V> {
         requires { Stands key (records self.old) place }
         ensures records { records self.new ≡ take_out key (records self.old) }
         ensures memory { memory self.new ≡ laid (records self.new) (memory self.old) }
-        ensures room { room self.new ≡ room self.old }
-        ensures lender { self.new.places.ghost_name ≡ self.old.places.ghost_name }
+        ensures places { SamePlaces self.old self.new }
     {
         let last = self.count - 1;
         self.count = place;

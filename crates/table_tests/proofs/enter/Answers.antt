@@ -3,7 +3,7 @@ use Rattle.std.proofs.lemmas.Bool.Decides.{nat_tests}
 use Rattle.table.specs.Records.{put_in}
 use Rattle.table.specs.View.{laid, memory, place_for, records, room}
 use Rattle.table.proofs.Laws.{length-put, place_within, put_lands}
-use Rattle.table.proofs.Memory.{laid-laid}
+use Rattle.table.proofs.Memory.{laid-laid, then_places}
 use Rattle.table_tests.specs.Entering.{accounts_answer}
 use Rattle.table_tests.proofs.Seats.{buyer_seated, seller_seated}
 use Rattle.table_tests.proofs.enter.Goals as goal
@@ -24,7 +24,7 @@ returns c =
     let seat_b = place_within (room a) limit b.key (records a) (buyer_seated places b s (records a) ok) in
     let seat_s = place_within (room a) limit s.key (put_in b (records a)) (seller_seated places b s (records a) ok) in
     let one = put_lands (room a) b (records a) (records t1) c.put.result c.put.ensures.answer c.put.ensures.records seat_b in
-    let seat = ap (λ n. place_for n s.key (records t1)) c.put.ensures.room ∙ ap (place_for (room a) s.key) one ∙ seat_s in
+    let seat = ap (λ n. place_for n s.key (records t1)) c.put.ensures.places.room ∙ ap (place_for (room a) s.key) one ∙ seat_s in
     let two = put_lands (room t1) s (records t1) (records t2) c.put-2.result c.put-2.ensures.answer c.put-2.ensures.records seat in
     let more : length (records t1) ≤ length (records t2) = let l = length-put s (records t1) in let e = ap length two in omega arith in
     record {
@@ -35,6 +35,5 @@ returns c =
         c.put-2.ensures.memory ∙ ap (laid (records t2)) c.put.ensures.memory ∙ laid-laid (records t1) (records t2) (memory a) more,
         c.put-3.ensures.memory,
       );
-      rooms = (c.put-2.ensures.room ∙ c.put.ensures.room, c.put-3.ensures.room);
-      lenders = (c.put-2.ensures.lender ∙ c.put.ensures.lender, c.put-3.ensures.lender);
+      places = (then_places c.put.ensures.places c.put-2.ensures.places, c.put-3.ensures.places);
     }

@@ -53,6 +53,6 @@ returns c =
     record {
       outcome = told.outcome;
       totals = told.totals;
-      room = (c.make_changes.ensures.room, c.take.ensures.room);
-      lender = (c.make_changes.ensures.lender, c.take.ensures.lender);
+      room = (c.make_changes.ensures.room, c.take.ensures.places.room);
+      lender = (c.make_changes.ensures.lender, c.take.ensures.places.lender);
     }

@@ -48,6 +48,6 @@ returns c =
     record {
       outcome = told.outcome;
       totals = told.totals;
-      room = (c.make_changes.ensures.room, c.put.ensures.room);
-      lender = (c.make_changes.ensures.lender, c.put.ensures.lender);
+      room = (c.make_changes.ensures.room, c.put.ensures.places.room);
+      lender = (c.make_changes.ensures.lender, c.put.ensures.places.lender);
     }

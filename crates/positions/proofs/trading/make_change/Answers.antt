@@ -24,6 +24,6 @@ returns c =
     c.put.ensures.answer c.put.ensures.records c.requires.place in
     record {
       records = lands ∙ ap (λ (x : Account). put_in (record { key = c.args.number; value = x }) xs) value;
-      room = c.put.ensures.room;
-      lender = c.put.ensures.lender;
+      room = c.put.ensures.places.room;
+      lender = c.put.ensures.places.lender;
     }

@@ -91,6 +91,5 @@ returns g c =
     record {
       records = now_records w;
       memory = now_memory w;
-      room = c.loop-slot.invariant.1;
-      lender = c.loop-slot.invariant.4;
+      places = record { room = c.loop-slot.invariant.1; lender = c.loop-slot.invariant.4 };
     }

@@ -38,8 +38,7 @@ returns-in-Ok g c =
       answer = sym (put_replaces (room t) r (records t) c.in-Ok.place s);
       records = now_records w;
       memory = now_memory w;
-      room = now_room w;
-      lender = refl {a = t.places.ghost_name};
+      places = record { room = now_room w; lender = refl {a = t.places.ghost_name} };
       law = λ _. after_put r (records t) _ (now_records w);
     }
 
@@ -51,8 +50,7 @@ returns-then-self g c =
       answer = sym (put_full (room t) c.args.incoming (records t) c.in-Err.place c.in-Err.ensures (omega arith));
       records = refl {a = records t};
       memory = sym (laid-records t);
-      room = refl {a = room t};
-      lender = refl {a = t.places.ghost_name};
+      places = record { room = refl {a = room t}; lender = refl {a = t.places.ghost_name} };
       law = λ (ok : false ≡ true). absurd (let z : ◌≡◌ {A = ℕ} 0 1 = cc in omega arith);
     }
 
@@ -66,7 +64,6 @@ returns-else-self g c =
       answer = sym (put_adds (room t) r (records t) c.in-Err.place c.in-Err.ensures (omega (arith, t.within, c.if-self.false)));
       records = done.records;
       memory = done.memory;
-      room = done.room;
-      lender = done.lender;
+      places = done.places;
       law = λ _. after_put r (records t) _ done.records;
     }

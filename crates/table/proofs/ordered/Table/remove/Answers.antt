@@ -96,6 +96,5 @@ returns g c =
     record {
       records = now_records w;
       memory = now_memory w;
-      room = c.loop-slot.invariant.1;
-      lender = c.loop-slot.invariant.3;
+      places = record { room = c.loop-slot.invariant.1; lender = c.loop-slot.invariant.3 };
     }

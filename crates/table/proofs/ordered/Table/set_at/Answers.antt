@@ -37,8 +37,7 @@ returns-then-place-self g c =
       answer = sym (lt-ltb c.args.place (length (records t)) (omega arith));
       records = now_records w;
       memory = now_memory w;
-      room = now_room w;
-      lender = refl {a = t.places.ghost_name};
+      places = record { room = now_room w; lender = refl {a = t.places.ghost_name} };
     }
 
 pub returns : goal.returns
@@ -49,6 +48,5 @@ returns g c =
       answer = sym (le-ltb c.args.place (length (records t)) (omega arith));
       records = sym (set_in_past c.args.value c.args.place (records t) (omega arith));
       memory = sym (laid-records t);
-      room = refl {a = room t};
-      lender = refl {a = t.places.ghost_name};
+      places = record { room = refl {a = room t}; lender = refl {a = t.places.ghost_name} };
     }

@@ -19,8 +19,7 @@ returns-in-Ok g c =
       answer = ap Some (sym (get_or-take t.count (memory t) place x (omega (arith, s.within)))) ∙ sym (find_stands key (records t) place s x);
       records = after;
       memory = c.remove.ensures.memory;
-      room = c.remove.ensures.room;
-      lender = c.remove.ensures.lender;
+      places = c.remove.ensures.places;
       law = after_take key (records t) _ t.order after;
     }
 
@@ -34,7 +33,6 @@ returns-in-Err g c =
       answer = sym (find_lacks key (records t) c.in-Err.field-0 lacks);
       records = after;
       memory = sym (laid-records t);
-      room = refl {a = room t};
-      lender = refl {a = t.places.ghost_name};
+      places = record { room = refl {a = room t}; lender = refl {a = t.places.ghost_name} };
       law = after_take key (records t) _ t.order after;
     }
