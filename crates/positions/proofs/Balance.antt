@@ -1,6 +1,6 @@
 -- Trades and busts give back what they took, and leave the sums over the accounts.
 use Rattle.std.proofs.Common.{◌≡◌, ℕ, Bool, true, false, eqb, List, ℤ, pos, ◌+ℤ◌, neg_ℤ, Some, None, Option, sym, refl, ap, ◌∙◌, subst, arith, eqb-true}
-use borrow.Author.Differences.{ints}
+use Rattle.std.proofs.lemmas.Int.{ints}
 use borrow.Author.Tests.{eqb-false}
 use lib.IntN.{neg_ℤ-neg_ℤ}
 use Rattle.table.specs.declared.keyed.Keyed.{Keyed}
@@ -10,7 +10,6 @@ use Rattle.table.proofs.Sums.{sum-put}
 use Rattle.positions.specs.declared.records.Account.{Account}
 use Rattle.positions.specs.declared.records.Trade.{Trade}
 use Rattle.positions.specs.Positions.{no_position, position, account_of, more, changed, cost_of, traded, busted}
-use Rattle.positions.specs.Trading.{undone}
 use Rattle.positions.specs.Laws.{SameTotals, PositionsBalance}
 use Rattle.positions.proofs.Positions.{both, changed_same, changed_other, there_and_back}
 
@@ -77,7 +76,7 @@ module _ (figure : Account → ℤ) (none : figure no_position ≡ pos 0) (rise 
       ∙ ap (λ z. z +ℤ rise (neg_ℤ q) (neg_ℤ v)) (sum_changed b q v xs)
       ∙ back (sum_of (λ (x : Keyed Account). figure x.value) xs)
 
-moved_totals : (b s : ℕ) (q v : ℤ) (xs : List (Keyed Account)) → SameTotals xs (changed s (neg_ℤ q) (neg_ℤ v) (changed b q v xs))
+pub moved_totals : (b s : ℕ) (q v : ℤ) (xs : List (Keyed Account)) → SameTotals xs (changed s (neg_ℤ q) (neg_ℤ v) (changed b q v xs))
 moved_totals b s q v xs = record {
   units = sum_moved (λ (x : Account). x.units) refl (λ q v. q) (λ q v x. refl) b s q v xs (λ z. there_and_back z q);
   at_close = sum_moved (λ (x : Account). x.units_at_close) refl (λ q v. pos 0) (λ q v x. omega (arith, ints)) b s q v xs (λ z. omega (arith, ints));
@@ -98,12 +97,3 @@ positions_balance = record {
   trade_totals = λ t xs. moved_totals t.buyer t.seller (pos t.units) (cost_of t) xs;
   bust_totals = bust_totals;
 }
-
--- ---- nothing changed, or a bust where the trade is found
-
-pub same_totals : (xs : List (Keyed Account)) → SameTotals xs xs
-same_totals xs = record { units = refl; at_close = refl; cost = refl }
-
-pub undone_totals : (o : Option (Keyed Trade)) (xs : List (Keyed Account)) → SameTotals xs (undone o xs)
-undone_totals None xs = same_totals xs
-undone_totals (Some t) xs = bust_totals t.value xs
