@@ -25,6 +25,9 @@ module _ (a b : ℕ) (q v : ℤ) (xs : List (Keyed Account)) where
 pub there_and_back : (z q : ℤ) → z +ℤ q +ℤ neg_ℤ q ≡ z
 there_and_back z q = omega (arith, ints)
 
+pub back_and_there : (z q : ℤ) → z +ℤ neg_ℤ q +ℤ q ≡ z
+back_and_there z q = omega (arith, ints)
+
 swapped : (a b c : Bool) → (a && b && c) ≡ (c && b && a)
 swapped a b c = and_comm (a && b) c ∙ ap (λ t. c && t) (and_comm a b) ∙ sym (and_assoc c b a)
 

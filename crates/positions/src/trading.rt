@@ -3,7 +3,7 @@ ghost use Rattle.std.specs.Prelude.{◌≡◌, neg_ℤ};
 ghost use Rattle.faults.specs.Checks.{first_fault, verdict};
 ghost use Rattle.table.specs.Records.{find_in};
 ghost use Rattle.table.specs.View.{SamePlaces, records, room};
-ghost use Rattle.positions.specs.Changes.{Allowed};
+ghost use Rattle.positions.specs.Changes.{Allowed, BothAllowed};
 ghost use Rattle.positions.specs.Laws.{SameTotals};
 ghost use Rattle.positions.specs.Positions.{changed};
 ghost use Rattle.positions.specs.Trading.{Busts, Enters, bust_checks, bust_checks_of, entry_checks};
@@ -81,8 +81,7 @@ fn make_change(accounts: &mut Table<'_, Account>, number: u32, change: Change)
 
 // Makes a change to the buyer, then its opposite to the seller.
 fn make_changes(accounts: &mut Table<'_, Account>, buyer: u32, seller: u32, change: Change)
-    requires buyer { Allowed (room accounts.old) buyer change.units change.cost (records accounts.old) }
-    requires seller { Allowed (room accounts.old) seller (neg_ℤ change.units) (neg_ℤ change.cost) (changed buyer change.units change.cost (records accounts.old)) }
+    requires { BothAllowed (room accounts.old) buyer seller change.units change.cost (records accounts.old) }
     ensures records { records accounts.new ≡ changed seller (neg_ℤ change.units) (neg_ℤ change.cost) (changed buyer change.units change.cost (records accounts.old)) }
     ensures totals { SameTotals (records accounts.old) (records accounts.new) }
     ensures places { SamePlaces accounts.old accounts.new }

@@ -15,8 +15,7 @@ returns-in_err-check_entry-clause-outcome c =
 pub make_changes-requires : goal.make_changes-requires
 make_changes-requires c =
     let o = verdict_passed tt tt _ (sym c.in_ok-check_entry.ensures) in
-    let allowed = entry_allowed _ (room c.args.trades.now) (records c.args.accounts.now) (records c.args.trades.now) c.args.ticket c.args.trade o in
-    rw (c.bought.ensures.units, c.bought.ensures.cost) record { buyer = allowed.0.buyer; seller = allowed.0.seller }
+    rw (c.bought.ensures.units, c.bought.ensures.cost) (entry_allowed _ (room c.args.trades.now) (records c.args.accounts.now) (records c.args.trades.now) c.args.ticket c.args.trade o).0
 
 pub returns-clause-outcome : goal.returns-clause-outcome
 returns-clause-outcome c =
@@ -25,4 +24,4 @@ returns-clause-outcome c =
     let o = verdict_passed tt tt _ (sym c.in_ok-check_entry.ensures) in
     let place = (entry_allowed (room c.args.accounts.now) (room c.args.trades.now) (records c.args.accounts.now) ts c.args.ticket t o).1 in
     let lands = put_lands _ (record { key = c.args.ticket; value = t }) ts _ _ c.put.ensures.answer c.put.ensures.records place in
-    rw (o, c.make_changes.ensures.records, c.bought.ensures.units, c.bought.ensures.cost, lands) (refl, refl, refl)
+    rw (o, c.make_changes.ensures.records, c.bought.ensures.units, c.bought.ensures.cost) (refl, refl, lands)
