@@ -7,4 +7,4 @@ use Rattle.positions.proofs.trading.bust.Goals as goal
 pub make_changes-requires : goal.make_changes-requires
 make_changes-requires c =
     let o = verdict_passed tt tt _ (sym c.in_ok-check_bust.ensures) in
-    rw (c.opposite.ensures.units, c.opposite.ensures.cost, c.bought.ensures.units, c.bought.ensures.cost) (bust_allowed _ (records c.args.accounts.now) c.in_ok-trade.field-0.value o)
+    simp (c.opposite.ensures.units, c.opposite.ensures.cost, c.bought.ensures.units, c.bought.ensures.cost) (bust_allowed _ (records c.args.accounts.now) c.in_ok-trade.field-0.value o)

@@ -10,7 +10,7 @@ pub returns-in_err-check_entry-clause-outcome : goal.returns-in_err-check_entry-
 returns-in_err-check_entry-clause-outcome c =
     let o = verdict_failed tt _ _ (sym c.in_err-check_entry.ensures) in
     let p = err_from_is_err_and c.from_residual.result c.from_residual.ensures.1 in
-    rw (o, p.1, p.2) (refl, refl, refl)
+    simp (o, p.1, p.2) (refl, refl, refl)
 
 pub make_changes-requires : goal.make_changes-requires
 make_changes-requires c =
