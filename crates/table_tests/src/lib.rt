@@ -7,14 +7,9 @@ ghost use Rattle.table.specs.View.{SamePlaces, laid, memory, records, room};
 ghost use Rattle.table_tests.specs.Entering.{accounts_answer, enter_answer};
 ghost use Rattle.table_tests.specs.Costs.{costing};
 
+use faults::{Fault, Refusal, require};
 use positions::{Account, Trade};
 use table::{Full, Keyed, Stored, Table};
-
-#[derive(Clone, Copy, PartialEq, Eq, Debug)]
-pub enum Refused {
-    NoAccountPlace(u32),
-    NoTradePlace,
-}
 
 // Whether the buyer and then the seller have places; else the first that has none.
 fn check_accounts(
@@ -22,18 +17,19 @@ fn check_accounts(
     limit: usize,
     buyer: Keyed<Account>,
     seller: Keyed<Account>,
-) -> Result<(), Refused>
+) -> Result<(), Fault>
     ensures { result ≡ accounts_answer (min (room accounts.now) limit) buyer seller (records accounts.now) }
 {
     let places = accounts.capacity().min(limit);
-    if !accounts.has_place(buyer.key, places) {
-        return Err(Refused::NoAccountPlace(buyer.key));
-    }
+    require(
+        accounts.has_place(buyer.key, places),
+        Refusal::NoAccountPlace.at(buyer.key),
+    )?;
     let taken = usize::from(accounts.find(buyer.key).is_none());
-    if seller.key != buyer.key && !accounts.has_place(seller.key, places - taken) {
-        return Err(Refused::NoAccountPlace(seller.key));
-    }
-    Ok(())
+    require(
+        (seller.key == buyer.key) | accounts.has_place(seller.key, places - taken),
+        Refusal::NoAccountPlace.at(seller.key),
+    )
 }
 
 // Keeps the two accounts of a trade and the trade, at most `limit` places of each table being used.
@@ -45,7 +41,7 @@ pub fn enter(
     buyer: Keyed<Account>,
     seller: Keyed<Account>,
     trade: Keyed<Trade>,
-) -> Result<(), Refused>
+) -> Result<(), Fault>
     ensures answer { result ≡ enter_answer (min (room accounts.old) limit) (min (room trades.old) limit) buyer seller trade (records accounts.old) (records trades.old) }
     ensures accounts { records accounts.new ≡ (if is_ok result then put_in seller (put_in buyer (records accounts.old)) else records accounts.old) }
     ensures trades { records trades.new ≡ (if is_ok result then put_in trade (records trades.old) else records trades.old) }
@@ -53,9 +49,7 @@ pub fn enter(
     ensures places { SamePlaces accounts.old accounts.new × SamePlaces trades.old trades.new }
 {
     check_accounts(accounts, limit, buyer, seller)?;
-    if !trades.has_place(trade.key, limit) {
-        return Err(Refused::NoTradePlace);
-    }
+    require(trades.has_place(trade.key, limit), Refusal::NoTradePlace)?;
     let _ = accounts.put(buyer);
     let _ = accounts.put(seller);
     let _ = trades.put(trade);

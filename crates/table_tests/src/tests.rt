@@ -171,7 +171,7 @@ fn entering_checks_first(rt: HostRuntime) {
         account(103, -1),
         trade(2, 1),
     );
-    assert_eq!(rt; refused, Err(Refused::NoAccountPlace(103)));
+    assert_eq!(rt; refused, Err(Refusal::NoAccountPlace.at(103)));
     assert!(rt; has_keys(&accounts, &[101, 102]));
     assert!(rt; has_keys(&trades, &[1]));
 }
