@@ -1,5 +1,5 @@
 -- What an `Accounts` lists and finds.
-use Rattle.std.specs.Prelude.{◌≡◌, ℕ, false, List, take, Some, None, Ok, Err, Option, Result}
+use Rattle.std.specs.Prelude.{◌≡◌, ℕ, false, List, Some, None, Ok, Err, Option, Result}
 use Rattle.faults.specs.declared.Fault.{Fault}
 use Rattle.balances.specs.declared.accounts.Accounts.{Accounts}
 use Rattle.balances.specs.declared.place.Place.{Place}
@@ -7,7 +7,7 @@ use Rattle.balances.specs.Lists.{First, different, has, list_fault}
 
 -- in their order
 abbrev pub listed : Accounts → List ℕ
-listed s = take s.count s.numbers
+listed s = s.numbers.items
 
 -- the place of an account, or none where the list does not have it
 abbrev pub Finds : List ℕ → ℕ → Option Place → Type 0

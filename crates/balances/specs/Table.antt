@@ -1,17 +1,15 @@
 -- The meaning of a balance table, over its accounts xs and the rows beside them.
-use Rattle.std.specs.Prelude.{◌≡◌, ℕ, List, ℤ, pos}
-use Rattle.ledger.specs.Meaning.{Reading}
+use Rattle.std.specs.Prelude.{◌≡◌, ℕ, cond, List, ℤ, pos, Some, None, Option}
 use Rattle.balances.specs.declared.balance.Balance.{Balance}
-use Rattle.balances.specs.Lists.{has, on_list}
+use Rattle.balances.specs.Lists.{on_list}
 use Rattle.balances.specs.Lookup.{lookup}
 
-abbrev pub value_in : Balance → ℤ
-value_in row = row.value
+abbrev pub value_in : Balance → Option ℤ
+value_in row = Some row.value
 
-abbrev pub table_reading : List ℕ → List Balance → Reading
-table_reading xs rows = record { known = has xs; balance = lookup value_in (pos 0) xs rows }
+abbrev pub table_balances : List ℕ → List Balance → ℕ → Option ℤ
+table_balances xs rows a = lookup value_in None xs rows a
 
 -- a new table knows the accounts of the list, each with a balance of 0
-pub record NewTable (list : List ℕ) (reading : Reading) : Type 0 where
-  pub known : (a : ℕ) → reading.known a ≡ on_list list a
-  pub balance : (a : ℕ) → reading.balance a ≡ pos 0
+abbrev pub NewTable : List ℕ → (ℕ → Option ℤ) → Type 0
+NewTable list balances = (a : ℕ) → balances a ≡ cond (on_list list a) (Some (pos 0)) None

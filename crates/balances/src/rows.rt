@@ -1,4 +1,4 @@
-ghost use Rattle.std.specs.Prelude.{◌≤◌};
+ghost use Rattle.std.specs.Prelude.{◌≤◌, length};
 ghost use Rattle.balances.specs.Places.{places};
 
 use crate::accounts::Accounts;
@@ -11,5 +11,5 @@ pub mod lending;
 pub struct Rows<R> {
     accounts: Accounts,
     rows: [R; PLACES],
-    ghost ok: { accounts.count ≤ places },
+    ghost ok: { length accounts.numbers.items ≤ places },
 }

@@ -2,7 +2,7 @@
 use Rattle.std.specs.Prelude.{ℕ, Bool, cond, List, [], ◌∷◌, Some, None, Ok, Err, Option, Result}
 use Rattle.faults.specs.declared.Fault.{Fault}
 use Rattle.faults.specs.declared.Refusal.{Refusal}
-use Rattle.faults.specs.Refusals.{plain}
+use Rattle.faults.specs.Refusals.{named, plain}
 
 pub record Check : Type 0 where
   pub passes : Bool
@@ -10,7 +10,7 @@ pub record Check : Type 0 where
 
 -- a check that names the account where it fails
 abbrev pub check : Bool → Refusal → ℕ → Check
-check passes refusal account = record { passes = passes; fault = record { refusal = refusal; account = account } }
+check passes refusal account = record { passes = passes; fault = named refusal account }
 
 infixr 4 ◌else◌
 -- or else the refusal, which names no account

@@ -1,5 +1,5 @@
 -- The numbers of the refusals: 1 to 13 for the input, 31 to 43 for the state.
-use Rattle.std.specs.Prelude.{ℕ}
+use Rattle.std.specs.Prelude.{ℕ, Some, None}
 use Rattle.faults.specs.declared.Fault.{Fault}
 use Rattle.faults.specs.declared.Refusal.{Refusal}
 use Rattle.faults.specs.declared.Refusal.TheVariants.{ExpectedValues, Strike, DiscountFactor, AccountNumber, SameAccount, Vega, Tick, BidAboveOffer, IndexValue, Rate, WrongWord, FileLength, DisruptedSettlement, Phase, ClosesDone, ClosesMissing, UnknownAccount, TradeUnits, AccountUnits, NoAccountPlace, NoTradePlace, TradesUsedUp, NoSuchTrade, NotAdmitted, OutOfRange, NoCapacity}
@@ -59,4 +59,8 @@ number NoCapacity = 43
 
 -- the fault of a refusal that names no account
 abbrev pub plain : Refusal → Fault
-plain refusal = record { refusal = refusal; account = 0 }
+plain refusal = record { refusal = refusal; account = None }
+
+-- the fault of a refusal that names an account
+abbrev pub named : Refusal → ℕ → Fault
+named refusal account = record { refusal = refusal; account = Some account }

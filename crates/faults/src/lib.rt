@@ -1,45 +1,45 @@
 // Why a call is refused: the refusals of the book with their numbers, and the fault that names one.
 #![tactic(auto)]
 
-ghost use Rattle.std.specs.Prelude.{◌≡◌};
-ghost use Rattle.faults.specs.Refusals.{number as number_of, plain as plain_of};
+ghost use Rattle.std.specs.Prelude.{◌≡◌, true, false, Ok, Err};
+ghost use Rattle.faults.specs.Refusals.{named, number as number_of, plain as plain_of};
 
-// Those of the input stand first, then those of the state, each group in rising number.
+// Those of the input stand first, then those of the state, each with the number by which a clerk knows it.
 #[derive(Clone, Copy, PartialEq, Eq, Debug)]
 pub enum Refusal {
-    ExpectedValues,
-    Strike,
-    DiscountFactor,
-    AccountNumber,
-    SameAccount,
-    Vega,
-    Tick,
-    BidAboveOffer,
-    IndexValue,
-    Rate,
-    WrongWord,
-    FileLength,
-    DisruptedSettlement,
-    Phase,
-    ClosesDone,
-    ClosesMissing,
-    UnknownAccount,
-    TradeUnits,
-    AccountUnits,
-    NoAccountPlace,
-    NoTradePlace,
-    TradesUsedUp,
-    NoSuchTrade,
-    NotAdmitted,
-    OutOfRange,
-    NoCapacity,
+    ExpectedValues = 1,
+    Strike = 2,
+    DiscountFactor = 3,
+    AccountNumber = 4,
+    SameAccount = 5,
+    Vega = 6,
+    Tick = 7,
+    BidAboveOffer = 8,
+    IndexValue = 9,
+    Rate = 10,
+    WrongWord = 11,
+    FileLength = 12,
+    DisruptedSettlement = 13,
+    Phase = 31,
+    ClosesDone = 32,
+    ClosesMissing = 33,
+    UnknownAccount = 34,
+    TradeUnits = 35,
+    AccountUnits = 36,
+    NoAccountPlace = 37,
+    NoTradePlace = 38,
+    TradesUsedUp = 39,
+    NoSuchTrade = 40,
+    NotAdmitted = 41,
+    OutOfRange = 42,
+    NoCapacity = 43,
 }
 
-// A refusal and the account that it names, 0 where it names none.
+// A refusal, and the account that it names, if any.
 #[derive(Clone, Copy, PartialEq, Eq, Debug)]
 pub struct Fault {
     pub refusal: Refusal,
-    pub account: u32,
+    pub account: Option<u32>,
 }
 
 // A refusal that names no account.
@@ -49,7 +49,7 @@ impl From<Refusal> for Fault {
     fn from(refusal: Refusal) -> Fault {
         Fault {
             refusal,
-            account: 0,
+            account: None,
         }
     }
 }
@@ -59,33 +59,23 @@ impl Refusal {
     pub fn number(self) -> u32
         ensures { result ≡ number_of self }
     {
-        match self {
-            Refusal::ExpectedValues => 1,
-            Refusal::Strike => 2,
-            Refusal::DiscountFactor => 3,
-            Refusal::AccountNumber => 4,
-            Refusal::SameAccount => 5,
-            Refusal::Vega => 6,
-            Refusal::Tick => 7,
-            Refusal::BidAboveOffer => 8,
-            Refusal::IndexValue => 9,
-            Refusal::Rate => 10,
-            Refusal::WrongWord => 11,
-            Refusal::FileLength => 12,
-            Refusal::DisruptedSettlement => 13,
-            Refusal::Phase => 31,
-            Refusal::ClosesDone => 32,
-            Refusal::ClosesMissing => 33,
-            Refusal::UnknownAccount => 34,
-            Refusal::TradeUnits => 35,
-            Refusal::AccountUnits => 36,
-            Refusal::NoAccountPlace => 37,
-            Refusal::NoTradePlace => 38,
-            Refusal::TradesUsedUp => 39,
-            Refusal::NoSuchTrade => 40,
-            Refusal::NotAdmitted => 41,
-            Refusal::OutOfRange => 42,
-            Refusal::NoCapacity => 43,
+        self as u32
+    }
+
+    // The fault that names an account.
+    pub fn at(self, account: u32) -> Fault
+        ensures { result ≡ named self account }
+    {
+        Fault {
+            refusal: self,
+            account: Some(account),
         }
     }
+}
+
+// One check: the refusal, unless it passes.
+pub fn require<E: Drop>(passes: bool, refusal: E) -> Result<(), E>
+    ensures { elim result [ Ok _ ↦ passes ≡ true | Err e ↦ (passes ≡ false) × (e ≡ refusal) ] }
+{
+    if passes { Ok(()) } else { Err(refusal) }
 }

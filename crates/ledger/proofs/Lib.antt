@@ -1,4 +1,3 @@
-pub mod Checks
 pub mod Money
 pub mod Refused
 pub mod Paid

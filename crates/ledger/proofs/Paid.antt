@@ -1,37 +1,41 @@
 -- One payment after another.
-use Rattle.std.proofs.Common.{◌≡◌, ℕ, ◌+◌, ◌<◌, ◌≤◌, Bool, true, false, cond, ◌||◌, eqb, List, [], ◌∷◌, ◌++◌, map, length, get_or, take, drop, ℤ, pos, ◌+ℤ◌, nat_abs, Some, None, sym, refl, ap, ◌∙◌, subst, append_assoc, arith, w64, SFits, eqb-true, le-leb, leb-true}
+use Rattle.std.proofs.Common.{◌≡◌, ℕ, ◌+◌, ◌<◌, Bool, true, false, cond, ◌||◌, eqb, List, [], ◌∷◌, ◌++◌, map, length, get_or, take, drop, ℤ, pos, ◌+ℤ◌, nat_abs, Some, None, sym, refl, ap, ◌∙◌, subst, append_assoc, arith, w64, SFits, eqb-true, leb-true}
 use lib.IntN.{+ℤ_idl, +ℤ_idr}
-use borrow.Author.Tests.{lt-leb}
-use Rattle.std.proofs.lemmas.List.{take_more, take-append-drop}
+use Rattle.std.proofs.lemmas.List.{map-append, take_more, take-append-drop}
+use Rattle.std.proofs.lemmas.List.Sums.{sum_by-append}
 use Rattle.std.proofs.lemmas.Int.{ints}
 use Rattle.std.proofs.lemmas.Bool.Decides.{nat_tests}
 use Rattle.faults.specs.declared.Fault.{Fault}
 use Rattle.faults.specs.declared.Refusal.TheVariants.{NoCapacity}
 use Rattle.ledger.specs.declared.payment.Payment.{Payment}
 use Rattle.faults.specs.Checks.{first_fault}
+use Rattle.faults.specs.Refusals.{plain}
 use Rattle.ledger.specs.Limits.{Within, is_zero, reaches}
 use Rattle.ledger.specs.Meaning.{Meaning}
 use Rattle.ledger.specs.Payments.{Raised, Paid, due, made, known_check, range_check, range_checks, capacity_check, fault_of, fault_of_all}
-use Rattle.ledger.proofs.Checks.{cut, map-++, or_else, first-++, none_both, passed, passes_then, fails_then}
-use Rattle.ledger.proofs.Money.{back, reached_within, reaches_back}
+use Rattle.faults.proofs.Rows.{cut, or_else, first-append, none_both, passed, passes_then, fails_then}
+use Rattle.ledger.proofs.Money.{back, reached_within, reaches_amount}
 use Rattle.ledger.proofs.Refused.{not_refused, raised_at}
+
+-- what stands past the end of a row of payments
+abbrev pub no_payment : Payment
+no_payment = record { account = 0; amount = pos 0 }
 
 -- ---- sums and counts
 
-pub due-++ : (ps qs : List Payment) (a : ℕ) → due (ps ++ qs) a ≡ due ps a +ℤ due qs a
-due-++ [] qs a = sym (+ℤ_idl (due qs a))
-due-++ (p ∷ ps) qs a = let ih = due-++ ps qs a in omega (arith, ints)
+pub due-append : (ps qs : List Payment) (a : ℕ) → due (ps ++ qs) a ≡ due ps a +ℤ due qs a
+due-append [] qs a = sym (+ℤ_idl (due qs a))
+due-append (p ∷ ps) qs a = let ih = due-append ps qs a in omega (arith, ints)
 
-pub made-++ : (ps qs : List Payment) → made (ps ++ qs) ≡ made ps + made qs
-made-++ [] qs = omega arith
-made-++ (p ∷ ps) qs = let ih = made-++ ps qs in omega arith
+pub made-append : (ps qs : List Payment) → made (ps ++ qs) ≡ made ps + made qs
+made-append ps qs = sum_by-append _ ps qs
 
 pub zero_is : (x : ℤ) → is_zero x ≡ true → x ≡ pos 0
 zero_is x e = let h = leb-true (nat_abs x) 0 e in omega (arith, ints)
 
 module _ (ps : List Payment) (p : Payment) where
   pub due_one : (a : ℕ) → due (ps ++ (p ∷ [])) a ≡ due ps a +ℤ cond (eqb p.account a) p.amount (pos 0)
-  due_one a = due-++ ps (p ∷ []) a ∙ ap (λ z. due ps a +ℤ z) (+ℤ_idr (cond (eqb p.account a) p.amount (pos 0)))
+  due_one a = due-append ps (p ∷ []) a ∙ ap (λ z. due ps a +ℤ z) (+ℤ_idr (cond (eqb p.account a) p.amount (pos 0)))
 
   pub due_here : (a : ℕ) → p.account ≡ a → due (ps ++ (p ∷ [])) a ≡ due ps a +ℤ p.amount
   due_here a e = due_one a ∙ grind (arith, nat_tests)
@@ -40,10 +44,10 @@ module _ (ps : List Payment) (p : Payment) where
   due_other a ne = due_one a ∙ grind (arith, nat_tests, +ℤ_idr (due ps a))
 
   pub made_none : is_zero p.amount ≡ true → made (ps ++ (p ∷ [])) ≡ made ps
-  made_none z = made-++ ps (p ∷ []) ∙ grind (arith, nat_tests)
+  made_none z = made-append ps (p ∷ []) ∙ grind (arith, nat_tests)
 
   pub made_one : is_zero p.amount ≡ false → made (ps ++ (p ∷ [])) ≡ made ps + 1
-  made_one z = made-++ ps (p ∷ []) ∙ grind (arith, nat_tests)
+  made_one z = made-append ps (p ∷ []) ∙ grind (arith, nat_tests)
 
 -- ---- the ledger
 
@@ -92,28 +96,28 @@ module _ (m : Meaning) (ps : List Payment) (n : Meaning) (paid : Paid m ps n) (p
 
 -- ---- checks of a row of payments
 
-pub range-++ : (m : Meaning) (before ps qs : List Payment) → range_checks m before (ps ++ qs) ≡ range_checks m before ps ++ range_checks m (before ++ ps) qs
-range-++ m before [] qs = ap (λ q. range_checks m q qs) (sym (append-nil before))
+pub range-append : (m : Meaning) (before ps qs : List Payment) → range_checks m before (ps ++ qs) ≡ range_checks m before ps ++ range_checks m (before ++ ps) qs
+range-append m before [] qs = ap (λ q. range_checks m q qs) (sym (append-nil before))
   where
     append-nil : (xs : List Payment) → xs ++ [] ≡ xs
     append-nil [] = refl
     append-nil (x ∷ xs) = ap (λ q. x ∷ q) (append-nil xs)
-range-++ m before (p ∷ ps) qs =
+range-append m before (p ∷ ps) qs =
     ap (λ q. range_check m before p ∷ q)
-    (range-++ m (before ++ (p ∷ [])) ps qs ∙ ap (λ q. range_checks m (before ++ (p ∷ [])) ps ++ range_checks m q qs) (append_assoc before (p ∷ []) ps))
+    (range-append m (before ++ (p ∷ [])) ps qs ∙ ap (λ q. range_checks m (before ++ (p ∷ [])) ps ++ range_checks m q qs) (append_assoc before (p ∷ []) ps))
 
 -- one turn of the loop that checks each range
 module _ (m : Meaning) (ps : List Payment) (i : ℕ) (d : Payment) (h : i < length ps) (before : first_fault (range_checks m [] (take i ps)) ≡ None) where
   pub range_more : (range_check m (take i ps) (get_or ps i d)).passes ≡ true → first_fault (range_checks m [] (take (i + 1) ps)) ≡ None
   range_more p =
       ap (λ q. first_fault (range_checks m [] q)) (take_more ps i d h)
-      ∙ ap first_fault (range-++ m [] (take i ps) (get_or ps i d ∷ []))
+      ∙ ap first_fault (range-append m [] (take i ps) (get_or ps i d ∷ []))
       ∙ passes_then (range_checks m [] (take i ps)) (range_check m (take i ps) (get_or ps i d)) [] before p
 
   pub range_fails : (range_check m (take i ps) (get_or ps i d)).passes ≡ false → first_fault (range_checks m [] ps) ≡ Some (range_check m (take i ps) (get_or ps i d)).fault
   range_fails p =
       ap (λ q. first_fault (range_checks m [] q)) (cut ps i d h)
-      ∙ ap first_fault (range-++ m [] (take i ps) (get_or ps i d ∷ drop (i + 1) ps))
+      ∙ ap first_fault (range-append m [] (take i ps) (get_or ps i d ∷ drop (i + 1) ps))
       ∙ fails_then (range_checks m [] (take i ps)) (range_check m (take i ps) (get_or ps i d)) (range_checks m (take i ps ++ (get_or ps i d ∷ [])) (drop (i + 1) ps)) before p
 
 -- a balance stays within the limits while each payment is in range
@@ -150,7 +154,7 @@ module _ (m : Meaning) (a : ℕ) (low : Within m.lowest) (high : Within m.highes
   pub within_at : (ps : List Payment) (i : ℕ) → first_fault (range_checks m [] ps) ≡ None → Within (m.balance a) → Within (m.balance a +ℤ due (take i ps) a)
   within_at ps i e h =
       let parts = ap (λ q. first_fault (range_checks m [] q)) (take-append-drop i ps) ∙ e in
-      let split = ap first_fault (range-++ m [] (take i ps) (drop i ps)) ∙ first-++ (range_checks m [] (take i ps)) (range_checks m (take i ps) (drop i ps)) in
+      let split = ap first_fault (range-append m [] (take i ps) (drop i ps)) ∙ first-append (range_checks m [] (take i ps)) (range_checks m (take i ps) (drop i ps)) in
       let front = (none_both _ _ (sym split ∙ parts)).0 in
       running_within [] (take i ps) front (subst Within (sym (+ℤ_idr (m.balance a))) h)
 
@@ -159,8 +163,8 @@ module _ (m : Meaning) (ps : List Payment) where
   pub kinds : fault_of_all m ps ≡ or_else (first_fault (map (known_check m) ps)) (or_else (first_fault (range_checks m [] ps)) (first_fault (capacity_check m ps ∷ [])))
   unfolding fault_of_all
   kinds =
-      first-++ (map (known_check m) ps) (range_checks m [] ps ++ (capacity_check m ps ∷ []))
-      ∙ ap (or_else (first_fault (map (known_check m) ps))) (first-++ (range_checks m [] ps) (capacity_check m ps ∷ []))
+      first-append (map (known_check m) ps) (range_checks m [] ps ++ (capacity_check m ps ∷ []))
+      ∙ ap (or_else (first_fault (map (known_check m) ps))) (first-append (range_checks m [] ps) (capacity_check m ps ∷ []))
 
   pub unknown_among : (f : Fault) → first_fault (map (known_check m) ps) ≡ Some f → fault_of_all m ps ≡ Some f
   unknown_among f k = kinds ∙ rw k
@@ -170,11 +174,11 @@ module _ (m : Meaning) (ps : List Payment) where
     range_among f r = kinds ∙ rw (k, r)
 
     module _ (r : first_fault (range_checks m [] ps) ≡ None) where
-      pub too_many : m.capacity < made ps → fault_of_all m ps ≡ Some (record { refusal = NoCapacity; account = 0 })
-      too_many h = let t = lt-leb (made ps) m.capacity h in kinds ∙ rw (k, r, t)
+      pub too_many : (capacity_check m ps).passes ≡ false → fault_of_all m ps ≡ Some (plain NoCapacity)
+      too_many t = kinds ∙ rw (k, r, t)
 
-      pub all_pass : made ps ≤ m.capacity → fault_of_all m ps ≡ None
-      all_pass h = let t = le-leb (made ps) m.capacity h in kinds ∙ rw (k, r, t)
+      pub all_pass : (capacity_check m ps).passes ≡ true → fault_of_all m ps ≡ None
+      all_pass t = kinds ∙ rw (k, r, t)
 
   -- one turn of the loop that pays
   module _ (ok : fault_of_all m ps ≡ None) (i : ℕ) (d : Payment) (h : i < length ps) (n : Meaning) (paid : Paid m (take i ps) n) where
@@ -193,19 +197,20 @@ module _ (m : Meaning) (ps : List Payment) where
           let e = cut ps i d h in
           let first = none_both _ _ (sym kinds ∙ ok) in
           let second = none_both _ _ first.1 in
-          let k = passed (map (known_check m) before) (known_check m p) (map (known_check m) after) (ap first_fault (sym (ap (map (known_check m)) e ∙ map-++ (known_check m) before (p ∷ after))) ∙ first.0) in
-          let r = passed (range_checks m [] before) (range_check m before p) (range_checks m (before ++ (p ∷ [])) after) (ap first_fault (sym (ap (range_checks m []) e ∙ range-++ m [] before (p ∷ after))) ∙ second.0) in
+          let k = passed (map (known_check m) before) (known_check m p) (map (known_check m) after) (ap first_fault (sym (ap (map (known_check m)) e ∙ map-append (known_check m) before (p ∷ after))) ∙ first.0) in
+          let r = passed (range_checks m [] before) (range_check m before p) (range_checks m (before ++ (p ∷ [])) after) (ap first_fault (sym (ap (range_checks m []) e ∙ range-append m [] before (p ∷ after))) ∙ second.0) in
           let k' : m.known p.account ≡ true = rw z at k in
           let r' : reaches m.lowest m.highest (m.balance p.account +ℤ due before p.account) p.amount ≡ true = rw z at r in
           let room = leb-true (made ps) m.capacity (passed [] (capacity_check m ps) [] second.1) in
-          let count : made ps ≡ made before + made (p ∷ after) = ap made e ∙ made-++ before (p ∷ after) in
-          let one : made (p ∷ after) ≡ 1 + made after = rw z in
+          let count : made ps ≡ made before + made (p ∷ after) = ap made e ∙ made-append before (p ∷ after) in
+          let rest : made (p ∷ after) ≡ made (p ∷ []) + made after = made-append (p ∷ []) after in
+          let one : made (p ∷ []) ≡ 1 = rw z in
           still_open m before n paid p k' r' (omega arith)
 
 -- the test of a range, as the code makes it
-pub range_shown : (m : Meaning) (before : List Payment) (p : Payment) (l h b : ℤ) (z r : Bool) → SFits w64 l → SFits w64 h → SFits w64 b → SFits w64 p.amount → l ≡ m.lowest → h ≡ m.highest → b ≡ m.balance p.account +ℤ due before p.account → z ≡ is_zero p.amount → r ≡ reaches (back l) (back h) (back b) (back p.amount) → (z || r) ≡ (range_check m before p).passes
-range_shown m before p l h b z r fl fh fb fx el eh eb ez er =
-    let is : r ≡ reaches m.lowest m.highest (m.balance p.account +ℤ due before p.account) p.amount = er ∙ reaches_back l h b p.amount fl fh fb fx ∙ rw (el, eh, eb) in
+pub range_shown : (m : Meaning) (before : List Payment) (p : Payment) (l h b : ℤ) (z r : Bool) → SFits w64 b → SFits w64 p.amount → l ≡ m.lowest → h ≡ m.highest → b ≡ m.balance p.account +ℤ due before p.account → z ≡ is_zero p.amount → r ≡ reaches l h (back b) (back p.amount) → (z || r) ≡ (range_check m before p).passes
+range_shown m before p l h b z r fb fx el eh eb ez er =
+    let is : r ≡ reaches m.lowest m.highest (m.balance p.account +ℤ due before p.account) p.amount = er ∙ reaches_amount l h b p.amount fb fx ∙ rw (el, eh, eb) in
     ap (λ t. t || r) ez ∙ ap (λ t. is_zero p.amount || t) is
 
 -- the test of an account, as the code makes it

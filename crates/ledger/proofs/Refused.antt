@@ -3,6 +3,7 @@ use Rattle.std.proofs.Common.{◌≡◌, ℕ, ◌<◌, Bool, true, false, cond, 
 use lib.IntN.{+ℤ_idr}
 use borrow.Author.Tests.{eqb-false, lt-leb}
 use Rattle.faults.specs.declared.Refusal.TheVariants.{UnknownAccount, OutOfRange, NoCapacity}
+use Rattle.faults.specs.Refusals.{named, plain}
 use Rattle.ledger.specs.Limits.{reaches}
 use Rattle.ledger.specs.Meaning.{Meaning, Same}
 use Rattle.ledger.specs.Payments.{fault_of, Raised}
@@ -11,15 +12,15 @@ pub same_self : (m : Meaning) → Same m m
 same_self m = record { known = λ _. refl; balance = λ _. refl; capacity = refl; lowest = refl; highest = refl }
 
 module _ (m : Meaning) (a : ℕ) (x : ℤ) where
-  pub unknown_refused : m.known a ≡ false → fault_of m a x ≡ Some (record { refusal = UnknownAccount; account = a })
+  pub unknown_refused : m.known a ≡ false → fault_of m a x ≡ Some (named UnknownAccount a)
   unfolding fault_of
   unknown_refused k = simp k
 
-  pub range_refused : m.known a ≡ true → reaches m.lowest m.highest (m.balance a) x ≡ false → fault_of m a x ≡ Some (record { refusal = OutOfRange; account = a })
+  pub range_refused : m.known a ≡ true → reaches m.lowest m.highest (m.balance a) x ≡ false → fault_of m a x ≡ Some (named OutOfRange a)
   unfolding fault_of
   range_refused k e = simp (k, e)
 
-  pub capacity_refused : m.known a ≡ true → reaches m.lowest m.highest (m.balance a) x ≡ true → m.capacity ≡ 0 → fault_of m a x ≡ Some (record { refusal = NoCapacity; account = 0 })
+  pub capacity_refused : m.known a ≡ true → reaches m.lowest m.highest (m.balance a) x ≡ true → m.capacity ≡ 0 → fault_of m a x ≡ Some (plain NoCapacity)
   unfolding fault_of
   capacity_refused k e z = let t = lt-leb 1 m.capacity (omega arith) in simp (k, e, t)
 

@@ -1,20 +1,28 @@
 -- What payments do to a cash ledger's meaning, and when they are refused.
-use Rattle.std.specs.Prelude.{◌≡◌, ℕ, ◌+◌, ◌≤◌, cond, ◌||◌, ◌⊎◌, List, [], ◌∷◌, ◌++◌, map, ℤ, pos, ◌+ℤ◌, Some, None, Ok, Err, Option, Result, ◌==◌, ◌≢◌, nat_le}
+use Rattle.std.specs.Prelude.{◌≡◌, ℕ, ◌+◌, ◌≤◌, cond, not, ◌||◌, ◌⊎◌, List, [], ◌∷◌, ◌++◌, map, count_by, ℤ, pos, ◌+ℤ◌, Some, None, Ok, Err, Option, Result, ◌==◌, ◌≢◌, nat_le}
 use Rattle.faults.specs.declared.Fault.{Fault}
 use Rattle.faults.specs.declared.Refusal.TheVariants.{UnknownAccount, OutOfRange, NoCapacity}
 use Rattle.ledger.specs.declared.payment.Payment.{Payment}
-use Rattle.faults.specs.Checks.{Check, check, first_fault}
+use Rattle.ledger.specs.declared.terms.Terms.{Terms}
+use Rattle.faults.specs.Checks.{Check, check, ◌else◌, first_fault}
 use Rattle.ledger.specs.Limits.{is_zero, reaches}
 use Rattle.ledger.specs.Meaning.{Meaning, Same}
 
 -- ---- one payment
+
+-- 42 and 43, of a payment x to the account a with the balance b
+abbrev pub term_checks : Terms → ℕ → ℤ → ℤ → List Check
+term_checks t a b x =
+    check (reaches t.lowest t.highest b x) OutOfRange a
+    ∷ ((nat_le 1 t.capacity else NoCapacity)
+    ∷ [])
 
 -- 34, 42 and 43, of which the first that applies refuses
 abbrev pub payment_checks : Meaning → ℕ → ℤ → List Check
 payment_checks m a x =
     check (m.known a) UnknownAccount a
     ∷ (check (reaches m.lowest m.highest (m.balance a) x) OutOfRange a
-    ∷ (check (nat_le 1 m.capacity) NoCapacity 0
+    ∷ ((nat_le 1 m.capacity else NoCapacity)
     ∷ []))
 
 unfoldable pub fault_of : Meaning → ℕ → ℤ → Option Fault
@@ -46,8 +54,7 @@ due (p ∷ ps) a = due_of p a +ℤ due ps a
 
 -- how many are made
 abbrev pub made : List Payment → ℕ
-made [] = 0
-made (p ∷ ps) = cond (is_zero p.amount) 0 1 + made ps
+made ps = count_by (λ p. not (is_zero p.amount)) ps
 
 -- the ledger m after the payments ps: each that is made may lower the capacity by one
 pub record Paid (m : Meaning) (ps : List Payment) (n : Meaning) : Type 0 where
@@ -73,7 +80,7 @@ range_checks m before (p ∷ ps) = range_check m before p ∷ range_checks m (be
 
 -- 43
 abbrev pub capacity_check : Meaning → List Payment → Check
-capacity_check m ps = check (nat_le (made ps) m.capacity) NoCapacity 0
+capacity_check m ps = nat_le (made ps) m.capacity else NoCapacity
 
 -- all 34, then all 42, then 43
 unfoldable pub fault_of_all : Meaning → List Payment → Option Fault

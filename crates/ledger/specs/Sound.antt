@@ -4,8 +4,8 @@ use Rattle.std.proofs.Common.{inl, inr, arith, lit≤, leb-true}
 use Rattle.std.proofs.lemmas.Bool.{cases_Bool}
 use Rattle.std.specs.Option.{unwrap_or}
 use Rattle.ledger.specs.Limits.{Within, farthest_balance, inside}
-use Rattle.ledger.specs.Meaning.{SoundReading, SoundTerms}
-use Rattle.ledger.specs.Totals.{if_within, reading_of, widest}
+use Rattle.ledger.specs.Meaning.{SoundReading, SoundTerms, reading_of, widest}
+use Rattle.ledger.specs.Totals.{if_within}
 
 none_unknown : (o : Option ℤ) → is_some o ≡ false → unwrap_or o (pos 0) ≡ pos 0
 none_unknown None e = refl

@@ -4,4 +4,5 @@
 pub mod limits;
 pub mod paying;
 pub mod payment;
+pub mod terms;
 pub mod traits;

@@ -1,34 +1,30 @@
 // Payments of which all are checked before one is made.
 ghost use Rattle.std.specs.Prelude.{◌≡◌, ℕ, [], map, ◌+ℤ◌, None};
 ghost use Rattle.faults.specs.Checks.{first_fault, verdict};
-ghost use Rattle.ledger.specs.Meaning.{meaning};
+ghost use Rattle.ledger.specs.Meaning.{meaning, reading_of};
 ghost use Rattle.ledger.specs.Payments.{PaysAll, due, known_check, range_check, range_checks, fault_of_all, made};
 
-use crate::limits::is_in_range;
 use crate::payment::Payment;
 use crate::traits::{BalanceReader, CashLedger};
-use faults::{Fault, Refusal};
+use faults::{Fault, Refusal, require};
 
 // The first account to be paid that the ledger does not know.
 fn check_known<L: CashLedger>(ledger: &L, payments: &[Payment]) -> Result<(), Fault>
-    ensures { result ≡ verdict tt (first_fault (map (known_check (meaning L.BalanceReader.reading L.CashLedger.terms ledger.now)) payments.now)) }
+    ensures { result ≡ verdict tt (first_fault (map (known_check (meaning L.BalanceReader.balances L.CashLedger.terms ledger.now)) payments.now)) }
 {
     for payment in payments {
-        let passes = payment.is_zero() | ledger.is_known(payment.account);
-        if !passes {
-            return Err(Fault {
-                refusal: Refusal::UnknownAccount,
-                account: payment.account,
-            });
-        }
+        require(
+            payment.is_zero() | ledger.is_known(payment.account),
+            Refusal::UnknownAccount.at(payment.account),
+        )?;
     }
     Ok(())
 }
 
 // The balance that payments leave to an account, where each of them is in range.
 fn balance_after<L: CashLedger>(ledger: &L, payments: &[Payment], account: u32) -> i64
-    requires { first_fault (range_checks (meaning L.BalanceReader.reading L.CashLedger.terms ledger.now) [] payments.now) ≡ None }
-    ensures { result ≡ (L.BalanceReader.reading ledger.now).balance account +ℤ due payments.now account }
+    requires { first_fault (range_checks (meaning L.BalanceReader.balances L.CashLedger.terms ledger.now) [] payments.now) ≡ None }
+    ensures { result ≡ (reading_of (L.BalanceReader.balances ledger.now)).balance account +ℤ due payments.now account }
 {
     let mut balance = ledger.balance_of(account);
     for payment in payments {
@@ -41,20 +37,15 @@ fn balance_after<L: CashLedger>(ledger: &L, payments: &[Payment], account: u32) 
 
 // The first payment that is too large or takes its account out of the ledger's range.
 fn check_range<L: CashLedger>(ledger: &L, payments: &[Payment]) -> Result<(), Fault>
-    ensures { result ≡ verdict tt (first_fault (range_checks (meaning L.BalanceReader.reading L.CashLedger.terms ledger.now) [] payments.now)) }
+    ensures { result ≡ verdict tt (first_fault (range_checks (meaning L.BalanceReader.balances L.CashLedger.terms ledger.now) [] payments.now)) }
 {
-    let lowest = ledger.lowest_balance();
-    let highest = ledger.highest_balance();
-    for i in 0..payments.len() {
-        let payment = payments[i];
-        let balance = balance_after(ledger, &payments[0..i], payment.account);
-        let passes = payment.is_zero() | is_in_range(lowest, highest, balance, payment.amount);
-        if !passes {
-            return Err(Fault {
-                refusal: Refusal::OutOfRange,
-                account: payment.account,
-            });
-        }
+    let terms = ledger.terms();
+    for (place, payment) in payments.iter().enumerate() {
+        let balance = balance_after(ledger, &payments[..place], payment.account);
+        require(
+            payment.is_zero() | terms.reaches(balance, payment.amount),
+            Refusal::OutOfRange.at(payment.account),
+        )?;
     }
     Ok(())
 }
@@ -63,19 +54,13 @@ fn check_range<L: CashLedger>(ledger: &L, payments: &[Payment]) -> Result<(), Fa
 fn count_made(payments: &[Payment]) -> u64
     ensures { result ≡ made payments.now }
 {
-    let mut count = 0;
-    for payment in payments {
-        if !payment.is_zero() {
-            count += 1;
-        }
-    }
-    count
+    payments.iter().filter(|payment| !payment.is_zero()).count() as u64
 }
 
 // Makes payments that have passed every check.
 fn make_all<L: CashLedger>(ledger: &mut L, payments: &[Payment]) -> Result<(), Fault>
-    requires { fault_of_all (meaning L.BalanceReader.reading L.CashLedger.terms ledger.old) payments.now ≡ None }
-    ensures { PaysAll (meaning L.BalanceReader.reading L.CashLedger.terms ledger.old) payments.now result (meaning L.BalanceReader.reading L.CashLedger.terms ledger.new) }
+    requires { fault_of_all (meaning L.BalanceReader.balances L.CashLedger.terms ledger.old) payments.now ≡ None }
+    ensures { PaysAll (meaning L.BalanceReader.balances L.CashLedger.terms ledger.old) payments.now result (meaning L.BalanceReader.balances L.CashLedger.terms ledger.new) }
 {
     for payment in payments {
         if !payment.is_zero() {
@@ -88,15 +73,13 @@ fn make_all<L: CashLedger>(ledger: &mut L, payments: &[Payment]) -> Result<(), F
 // Makes payments in their order. All are checked first: all accounts, then all balances, each with the payments before
 // it counted, then the capacity. A payment of zero is not made, and never refused.
 pub fn pay_all<L: CashLedger>(ledger: &mut L, payments: &[Payment]) -> Result<(), Fault>
-    ensures { PaysAll (meaning L.BalanceReader.reading L.CashLedger.terms ledger.old) payments.now result (meaning L.BalanceReader.reading L.CashLedger.terms ledger.new) }
+    ensures { PaysAll (meaning L.BalanceReader.balances L.CashLedger.terms ledger.old) payments.now result (meaning L.BalanceReader.balances L.CashLedger.terms ledger.new) }
 {
     check_known(ledger, payments)?;
     check_range(ledger, payments)?;
-    if ledger.capacity() < count_made(payments) {
-        return Err(Fault {
-            refusal: Refusal::NoCapacity,
-            account: 0,
-        });
-    }
+    require(
+        count_made(payments) <= ledger.capacity(),
+        Refusal::NoCapacity,
+    )?;
     make_all(ledger, payments)
 }

@@ -1,8 +1,11 @@
 // The figures that come in: each a type of its own, which holds nothing past its limits.
 #![tactic(auto)]
 
+ghost use Rattle.faults.specs.declared.Refusal.{Refusal};
+ghost use Rattle.faults.specs.declared.Refusal.TheVariants as or;
 ghost use Rattle.std.specs.Prelude.{◌≡◌, ◌≤◌, true, false, Ok, Err};
-ghost use Rattle.quantities.specs.Limits.{between, is_expected_values, is_strike, is_discount_factor, is_vega, is_tick, is_index_value, is_account_number, is_rate};
+ghost use Rattle.quantities.specs.Bounds.{BoundsAreLimits};
+ghost use Rattle.quantities.specs.Limits.{between};
 
 use faults::Refusal;
 
@@ -47,7 +50,7 @@ pub const LOWEST_RATE: u32 = 0;
 pub const HIGHEST_RATE: u32 = 2_000;
 
 // A number from LOW to HIGH.
-#[derive(Clone, Copy)]
+#[derive(Clone, Copy, PartialEq, Eq, PartialOrd, Ord, Debug)]
 pub struct Within<const LOW: u32, const HIGH: u32> {
     pub value: u32,
     ghost ok: { (LOW ≤ value) × (value ≤ HIGH) },
@@ -69,79 +72,84 @@ pub type AccountNumber = Within<LOWEST_ACCOUNT_NUMBER, HIGHEST_ACCOUNT_NUMBER>;
 
 pub type Rate = Within<LOWEST_RATE, HIGHEST_RATE>;
 
+// What refuses a figure that is past its limits.
+pub trait Limited {
+    const REFUSAL: Refusal;
+
+    ghost REFUSAL: { Refusal };
+}
+
 impl<const LOW: u32, const HIGH: u32> Within<LOW, HIGH> {
-    // The number, or the refusal where it is past the limits.
-    pub(crate) fn checked(value: u32, refusal: Refusal) -> Result<Within<LOW, HIGH>, Refusal>
-        ensures { elim result [ Ok x ↦ (between LOW HIGH value ≡ true) × (x.value ≡ value) | Err e ↦ (between LOW HIGH value ≡ false) × (e ≡ refusal) ] }
+    // Whether a number is within the limits.
+    pub fn holds(value: u32) -> bool
+        ensures { result ≡ between LOW HIGH value }
     {
-        if LOW <= value && value <= HIGH {
+        (LOW..=HIGH).contains(&value)
+    }
+
+    // The number, or the refusal where it is past the limits.
+    pub fn of(value: u32) -> Result<Self, Refusal>
+    where
+        Self: Limited,
+        ensures { elim result [ Ok x ↦ (between LOW HIGH value ≡ true) × (x.value ≡ value) | Err e ↦ (between LOW HIGH value ≡ false) × (e ≡ ⟦<Within<LOW, HIGH> as Limited>⟧.REFUSAL) ] }
+    {
+        if Self::holds(value) {
             Ok(Within { value })
         } else {
-            Err(refusal)
+            Err(Self::REFUSAL)
         }
     }
 }
 
-impl ExpectedValues {
-    pub fn of(value: u32) -> Result<ExpectedValues, Refusal>
-        ensures { elim result [ Ok x ↦ (is_expected_values value ≡ true) × (x.value ≡ value) | Err e ↦ (is_expected_values value ≡ false) × (e ≡ Refusal.ExpectedValues) ] }
-    {
-        Within::checked(value, Refusal::ExpectedValues)
-    }
+impl Limited for ExpectedValues {
+    const REFUSAL: Refusal = Refusal::ExpectedValues;
+
+    ghost REFUSAL = { or.ExpectedValues };
 }
 
-impl Strike {
-    pub fn of(value: u32) -> Result<Strike, Refusal>
-        ensures { elim result [ Ok x ↦ (is_strike value ≡ true) × (x.value ≡ value) | Err e ↦ (is_strike value ≡ false) × (e ≡ Refusal.Strike) ] }
-    {
-        Within::checked(value, Refusal::Strike)
-    }
+impl Limited for Strike {
+    const REFUSAL: Refusal = Refusal::Strike;
+
+    ghost REFUSAL = { or.Strike };
 }
 
-impl DiscountFactor {
-    pub fn of(value: u32) -> Result<DiscountFactor, Refusal>
-        ensures { elim result [ Ok x ↦ (is_discount_factor value ≡ true) × (x.value ≡ value) | Err e ↦ (is_discount_factor value ≡ false) × (e ≡ Refusal.DiscountFactor) ] }
-    {
-        Within::checked(value, Refusal::DiscountFactor)
-    }
+impl Limited for DiscountFactor {
+    const REFUSAL: Refusal = Refusal::DiscountFactor;
+
+    ghost REFUSAL = { or.DiscountFactor };
 }
 
-impl Vega {
-    pub fn of(value: u32) -> Result<Vega, Refusal>
-        ensures { elim result [ Ok x ↦ (is_vega value ≡ true) × (x.value ≡ value) | Err e ↦ (is_vega value ≡ false) × (e ≡ Refusal.Vega) ] }
-    {
-        Within::checked(value, Refusal::Vega)
-    }
+impl Limited for Vega {
+    const REFUSAL: Refusal = Refusal::Vega;
+
+    ghost REFUSAL = { or.Vega };
 }
 
-impl Tick {
-    pub fn of(value: u32) -> Result<Tick, Refusal>
-        ensures { elim result [ Ok x ↦ (is_tick value ≡ true) × (x.value ≡ value) | Err e ↦ (is_tick value ≡ false) × (e ≡ Refusal.Tick) ] }
-    {
-        Within::checked(value, Refusal::Tick)
-    }
+impl Limited for Tick {
+    const REFUSAL: Refusal = Refusal::Tick;
+
+    ghost REFUSAL = { or.Tick };
 }
 
-impl IndexValue {
-    pub fn of(value: u32) -> Result<IndexValue, Refusal>
-        ensures { elim result [ Ok x ↦ (is_index_value value ≡ true) × (x.value ≡ value) | Err e ↦ (is_index_value value ≡ false) × (e ≡ Refusal.IndexValue) ] }
-    {
-        Within::checked(value, Refusal::IndexValue)
-    }
+impl Limited for IndexValue {
+    const REFUSAL: Refusal = Refusal::IndexValue;
+
+    ghost REFUSAL = { or.IndexValue };
 }
 
-impl AccountNumber {
-    pub fn of(value: u32) -> Result<AccountNumber, Refusal>
-        ensures { elim result [ Ok x ↦ (is_account_number value ≡ true) × (x.value ≡ value) | Err e ↦ (is_account_number value ≡ false) × (e ≡ Refusal.AccountNumber) ] }
-    {
-        Within::checked(value, Refusal::AccountNumber)
-    }
+impl Limited for AccountNumber {
+    const REFUSAL: Refusal = Refusal::AccountNumber;
+
+    ghost REFUSAL = { or.AccountNumber };
 }
 
-impl Rate {
-    pub fn of(value: u32) -> Result<Rate, Refusal>
-        ensures { elim result [ Ok x ↦ (is_rate value ≡ true) × (x.value ≡ value) | Err e ↦ (is_rate value ≡ false) × (e ≡ Refusal.Rate) ] }
-    {
-        Within::checked(value, Refusal::Rate)
-    }
+impl Limited for Rate {
+    const REFUSAL: Refusal = Refusal::Rate;
+
+    ghost REFUSAL = { or.Rate };
 }
+
+// The bounds above are the limits of the figures.
+pub fn bounds_are_limits()
+    ensures { BoundsAreLimits }
+{}

@@ -17,12 +17,8 @@ impl<R> Rows<R> {
         ensures accounts { (a : ℕ) → has (listed result.accounts) a ≡ on_list list.now a }
         ensures rows { result.rows ≡ replicate places row }
     {
-        let accounts = match Accounts::of(list) {
-            Ok(accounts) => accounts,
-            Err(_) => Accounts::none(),
-        };
         Rows {
-            accounts,
+            accounts: Accounts::of(list).unwrap_or(Accounts::new()),
             rows: [row; PLACES],
         }
     }

@@ -4,5 +4,5 @@ use Rattle.ledger.specs.Meaning.{meaning}
 use Rattle.ledger.specs.Payments.{range_checks}
 use Rattle.ledger.proofs.paying.check_range.Given as goal
 
-abbrev pub invariant-loop-i : goal.invariant-loop-i
-invariant-loop-i g l = first_fault (range_checks (meaning g.L.BalanceReader.reading g.L.CashLedger.terms l.ledger) [] (take l.i l.payments)) ≡ None
+abbrev pub invariant-loop-place : goal.invariant-loop-place
+invariant-loop-place g l = first_fault (range_checks (meaning g.L.BalanceReader.balances g.L.CashLedger.terms l.ledger) [] (take l.place l.payments)) ≡ None

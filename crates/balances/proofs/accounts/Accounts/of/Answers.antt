@@ -3,26 +3,28 @@ use Rattle.std.proofs.lemmas.List.{take_all}
 use Rattle.std.proofs.lemmas.Result.{err_from_is_err_and}
 use Rattle.balances.specs.Accounts.{listed}
 use Rattle.balances.specs.Lists.{add_new, different}
-use Rattle.balances.proofs.Listing.{list_bad, list_good, list_full, sixty_fifth, step, listed_le}
+use Rattle.balances.proofs.Listing.{list_bad, list_good, list_full, sixty_fifth, step}
 use Rattle.balances.proofs.accounts.Accounts.of.Goals as goal
 
-pub returns-then-not-are_admitted : goal.returns-then-not-are_admitted
-returns-then-not-are_admitted c = list_bad _ (sym c.if-not-are_admitted.ensures)
+pub returns-in_err-require : goal.returns-in_err-require
+returns-in_err-require c =
+    let p = err_from_is_err_and c.from_residual.result c.from_residual.ensures.1 in
+    let e = c.in_err-require.ensures in
+    rw (p.1, p.2, e.1) (list_bad _ (sym c.are_admitted.ensures ∙ e.0))
 
 pub returns-in_err-add : goal.returns-in_err-add
 returns-in_err-add c =
-    let p = err_from_is_err_and c.from_residual.result c.from_residual.ensures.1 in
+    let p = err_from_is_err_and c.from_residual-in_err-add.result c.from_residual-in_err-add.ensures.1 in
     let e = c.in_err-add.ensures in
     let w = sixty_fifth c.args.list.now _ c.loop-account.account-index _ c.loop-account-test.true refl (sym c.loop-account.invariant) e.1 e.2 in
-    rw (p.1, p.2, e.0) (list_full _ _ (sym c.if-not-are_admitted.ensures) w.0 w.1)
+    rw (p.1, p.2, e.0) (list_full _ _ (sym c.are_admitted.ensures ∙ c.in_ok-require.ensures) w.0 w.1)
 
 pub loop-account-preserved : goal.loop-account-preserved
 loop-account-preserved c =
-    let e = c.in_ok-add.ensures in
-    e ∙ ap (λ t. add_new t (get_or c.args.list.now c.loop-account.account-index 0)) c.loop-account.invariant ∙ sym (step c.args.list.now c.loop-account.account-index c.loop-account-test.true)
+    c.in_ok-add.ensures ∙ ap (λ t. add_new t (get_or c.args.list.now c.loop-account.account-index 0)) c.loop-account.invariant ∙ sym (step c.args.list.now c.loop-account.account-index c.loop-account-test.true)
 
 pub returns : goal.returns
 returns c =
     let e : listed c.loop-account.accounts ≡ different c.args.list.now = c.loop-account.invariant ∙ ap different (take_all _ _ c.loop-account-test.false) in
-    let n : length (different c.args.list.now) ≤ 64 = rw e at (listed_le c.loop-account.accounts) in
-    (list_good _ (sym c.if-not-are_admitted.ensures) n, e)
+    let n : length (different c.args.list.now) ≤ 64 = rw e at c.loop-account.accounts.fits in
+    (list_good _ (sym c.are_admitted.ensures ∙ c.in_ok-require.ensures) n, e)

@@ -1,22 +1,10 @@
-use Rattle.std.proofs.Common.{◌≡◌, length, take, sym, ◌∙◌, arith, rules}
-use Rattle.std.proofs.lemmas.List.{get_or-take}
-use Rattle.balances.proofs.Listing.{has_none, listed_length}
+use Rattle.std.proofs.Common.{eqb, sym, rules, tests}
+use Rattle.std.proofs.lemmas.Iterator.{YieldsList-from_slice}
+use Rattle.std.proofs.lemmas.Iterator.Search.{position_from_yields_List}
+use Rattle.balances.proofs.Listing.{no_place}
 use Rattle.balances.proofs.accounts.Accounts.place.Goals as goal
 
-pub returns-then-self-i : goal.returns-then-self-i
-returns-then-self-i c =
-    let s = c.args.self.now in
-    let n : length s.numbers ≡ 64 = search rules in
-    let m = listed_length s n in
-    record {
-      below = omega arith;
-      here = get_or-take s.count s.numbers c.loop-i.i 0 c.loop-i-test.true ∙ c.if-self-i.true;
-      earlier = λ k h e. c.loop-i.invariant k h (sym (get_or-take s.count s.numbers k 0 (omega arith)) ∙ e);
-    }
-
-pub returns : goal.returns
-returns c =
-    let s = c.args.self.now in
-    let n : length s.numbers ≡ 64 = search rules in
-    let m = listed_length s n in
-    has_none (take s.count s.numbers) c.args.account (λ k h e. c.loop-i.invariant k (omega arith) (sym (get_or-take s.count s.numbers k 0 (omega arith)) ∙ e))
+pub returns-in_err-index : goal.returns-in_err-index
+returns-in_err-index c =
+    let p = position_from_yields_List (λ x. eqb x c.args.account) _ _ _ c.in_err-index.ensures.ran (YieldsList-from_slice _ c.iter.ensures.rest) (λ x b q k. search (rules, tests)) in
+    rw (c.from_residual.ensures, ← c.numbers.ensures) (no_place c.numbers.result.now c.args.account (sym p))

@@ -1,51 +1,56 @@
-use Rattle.std.proofs.Common.{◌<◌, length, pos, ◌+ℤ◌, sym, ap, ◌∙◌, arith, lit≤}
-use Rattle.ledger.proofs.Money.{reached_within, reaches_amount, sum_back}
-use Rattle.ledger.proofs.Refused.{same_self, unknown_refused, range_refused, not_refused}
-use Rattle.ledger.proofs.Money.{fits_within}
-use Rattle.balances.specs.Table.{value_in}
-use Rattle.balances.proofs.Listing.{has_first}
-use Rattle.balances.proofs.Lookup.{lookup_at}
-use Rattle.balances.proofs.Tables.{table_raised}
+use Rattle.std.proofs.Common.{◌≡◌, ◌<◌, length, Some, None, sym, ap, ◌∙◌, arith}
+use Rattle.std.proofs.lemmas.Result.{err_from_is_err_and}
+use Rattle.faults.proofs.Rows.{verdict_failed}
+use Rattle.ledger.proofs.Money.{fits_within, reaches_amount}
+use Rattle.ledger.proofs.Refused.{same_self}
+use Rattle.balances.specs.Accounts.{listed}
+use Rattle.balances.specs.Lists.{First}
+use Rattle.balances.specs.Table.{table_balances, value_in}
+use Rattle.balances.proofs.Lookup.{lookup_at, lookup_none}
+use Rattle.balances.proofs.Tables.{table_fault, table_raised, table_unknown, taken}
 use Rattle.balances.proofs.table.BalanceTableCashLedger.pay.Goals as goal
 
-pub returns-in_default : goal.returns-in_default
-returns-in_default c = (unknown_refused _ _ _ c.in_default.ensures, same_self _)
+pub returns-in_err-place : goal.returns-in_err-place
+returns-in_err-place c =
+    let p = err_from_is_err_and c.from_residual.result c.from_residual.ensures.1 in
+    let e = c.in_err-place.ensures in
+    let none = rw e.ok_part at c.place.ensures in
+    let fault = rw (e.ok_part, c.at.ensures) at e.value in
+    rw (p.1, p.2) (table_unknown _ _ _ _ (lookup_none value_in None _ _ _ none) ∙ cc, same_self _)
 
-pub returns-then-not-is_in_range : goal.returns-then-not-is_in_range
-returns-then-not-is_in_range c =
-    let row = c.at.result.now in
-    let n = c.at.ensures.long in
-    let i = c.in-Some.place.inside in
-    let at = lookup_at value_in (pos 0) _ c.args.self.now.rows.rows c.args.account c.in-Some.place.index row c.in-Some.ensures (omega arith) ∙ sym (ap value_in c.at.ensures.value) in
-    let e = reaches_amount _ _ row.value c.args.amount (fits_within _ row.within) c.ranges.amount in
-    (range_refused _ _ _ (has_first _ _ _ c.in-Some.ensures) (rw at (sym (c.if-not-is_in_range.ensures ∙ e))), same_self _)
+pub returns-in_err-check : goal.returns-in_err-check
+returns-in_err-check c =
+    let rows = c.args.self.now.rows in
+    let row = c.at-2.result.now in
+    let i = c.in_ok-place.place.index in
+    let p = err_from_is_err_and c.from_residual-in_err-check.result c.from_residual-in_err-check.ensures.1 in
+    let first : First (listed rows.accounts) c.args.account i = rw c.in_ok-place.ensures.ok_part at c.place.ensures in
+    let n = c.at-2.ensures.long in
+    let k = c.in_ok-place.place.inside in
+    let here : table_balances (listed rows.accounts) rows.rows c.args.account ≡ Some row.value = lookup_at value_in None _ rows.rows c.args.account i row first (omega arith) ∙ sym (ap value_in c.at-2.ensures.value) in
+    let e = rw (c.terms.ensures, reaches_amount _ _ row.value c.args.amount (fits_within _ row.within) c.ranges.amount) at c.in_err-check.ensures in
+    rw (p.1, p.2) (table_fault _ _ _ _ _ here ∙ verdict_failed tt _ _ (sym e), same_self _)
 
-pub overflow_add-row : goal.overflow_add-row
-overflow_add-row c =
-    let row = c.at.result.now in
-    let f = fits_within _ row.within in
-    let e = c.if-not-is_in_range.ensures ∙ reaches_amount _ _ row.value c.args.amount f c.ranges.amount in
-    (sum_back _ _ f c.ranges.amount (reached_within _ _ _ _ (lit≤ tt) (lit≤ tt) (sym e))).0
+pub overflow_add-balance : goal.overflow_add-balance
+overflow_add-balance c =
+    let row = c.at-2.result.now in
+    (taken _ _ _ _ row.value _ row.within c.ranges.amount c.terms.ensures c.in_ok-check.ensures).fits
 
 pub invariant_of-row : goal.invariant_of-row
 invariant_of-row c =
-    let row = c.at.result.now in
-    let f = fits_within _ row.within in
-    let e = c.if-not-is_in_range.ensures ∙ reaches_amount _ _ row.value c.args.amount f c.ranges.amount in
-    let w = reached_within _ _ _ _ (lit≤ tt) (lit≤ tt) (sym e) in
-    record { within = rw (sum_back _ _ f c.ranges.amount w).1 w }
+    let row = c.at-2.result.now in
+    let t = taken _ _ _ _ row.value _ row.within c.ranges.amount c.terms.ensures c.in_ok-check.ensures in
+    record { within = rw t.sum t.within }
 
 pub returns : goal.returns
 returns c =
-    let row = c.at.result.now in
-    let n = c.at.ensures.long in
-    let i = c.in-Some.place.inside in
-    let h : c.in-Some.place.index < length c.args.self.now.rows.rows = omega arith in
-    let first = c.in-Some.ensures in
-    let f = fits_within _ row.within in
-    let at = lookup_at value_in (pos 0) _ c.args.self.now.rows.rows c.args.account c.in-Some.place.index row first h ∙ sym (ap value_in c.at.ensures.value) in
-    let e = c.if-not-is_in_range.ensures ∙ reaches_amount _ _ row.value c.args.amount f c.ranges.amount in
-    let sum = (sum_back row.value c.args.amount f c.ranges.amount (reached_within _ _ _ _ (lit≤ tt) (lit≤ tt) (sym e))).1 in (
-      not_refused _ _ _ (has_first _ _ _ first) (rw at (sym e)) (omega arith),
-      table_raised _ c.args.self.now.rows.rows c.args.account c.in-Some.place.index _ c.args.amount first h (sum ∙ ap (λ z. z +ℤ c.args.amount) (sym at)),
-    )
+    let rows = c.args.self.now.rows in
+    let row = c.at-2.result.now in
+    let i = c.in_ok-place.place.index in
+    let first : First (listed rows.accounts) c.args.account i = rw c.in_ok-place.ensures.ok_part at c.place.ensures in
+    let n = c.at-2.ensures.long in
+    let k = c.in_ok-place.place.inside in
+    let h : i < length rows.rows = omega arith in
+    let here : table_balances (listed rows.accounts) rows.rows c.args.account ≡ Some row.value = lookup_at value_in None _ rows.rows c.args.account i row first h ∙ sym (ap value_in c.at-2.ensures.value) in
+    let t = taken _ _ _ c.args.account row.value _ row.within c.ranges.amount c.terms.ensures c.in_ok-check.ensures in
+    (table_fault _ _ _ _ _ here ∙ t.passes, table_raised _ _ _ _ _ here i _ first h t.sum)
