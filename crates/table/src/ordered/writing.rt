@@ -43,7 +43,8 @@ impl<'a, V: Copy> Table<'a, V> {
         false
     }
 
-    // Sets each value to what `f` makes of it; the keys stay. `values` holds of any function g that `f` computes.
+    // Sets each value to what `f` makes of it, which asks nothing of a value; the keys stay. `values` holds of any function
+    // g that `f` computes.
     pub fn map_values<F: Fn(V) -> V>(&mut self, f: F)
         requires { F.IsAlwaysCallable f }
         ensures keys { map key_of (records self.new) ≡ map key_of (records self.old) }
