@@ -132,7 +132,10 @@ fn journal_words(rt: HostRuntime) {
 #[test]
 fn journal_sizes(rt: HostRuntime) {
     assert_eq!(rt; Journal::new(&mut [], 1, 9).capacity(), 0);
-    assert_eq!(rt; Journal::new(&mut [0; 3], 1, 9).pay(1, 1), Err(NoCapacity.into()));
+    assert_eq!(rt;
+        Journal::new(&mut [0; 3], 1, 9).pay(1, 1),
+        Err(NoCapacity.into())
+    );
     assert_eq!(rt; Journal::new(&mut [0; 4], 1, 9).capacity(), 1);
     assert_eq!(rt; Journal::new(&mut [0; 7], 1, 9).capacity(), 1);
 }
