@@ -1,3 +1,4 @@
 pub mod Listing
 pub mod Lookup
+pub mod Taken
 pub mod Tables

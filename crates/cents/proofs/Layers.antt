@@ -1,68 +1,56 @@
 -- The cents layer over any ledger's meaning.
-use Rattle.std.proofs.Common.{◌≡◌, ℕ, ◌<◌, ◌≤◌, Bool, true, false, cond, not, ◌&&◌, T, ◌⊎◌, List, length, set, replicate, ℤ, pos, ◌+ℤ◌, ◌*ℤ◌, nat_abs, ◌≤ℤ◌, is_some, Some, None, Option, unwrap_or, sym, refl, ap, ◌∙◌, subst, inl, inr, arith, w64, SFits, to_z}
+use Rattle.std.proofs.Common.{◌≡◌, ℕ, ◌<◌, ◌≤◌, Bool, true, false, cond, not, ◌&&◌, List, length, get_or, set, replicate, ℤ, pos, ◌+ℤ◌, ◌*ℤ◌, nat_abs, is_some, Some, None, Ok, unwrap_or, sym, refl, ap, ◌∙◌, inl, inr, arith, w64, SFits}
 use lib.IntN.{+ℤ_idr}
-use lib.Signed.{lt_z, lt_z_no}
-use Rattle.std.proofs.lemmas.Int.{to_z-of_z, to_z_pos, ints}
+use lib.Signed.{lt_z, ◌≤ℤ◌}
+use Rattle.std.specs.Int.{int_min}
+use Rattle.std.proofs.lemmas.Int.{to_z-of_z, ints}
 use Rattle.std.proofs.lemmas.Bool.{cases_Bool, cases_eq, and_right, and_parts}
 use Rattle.prices.specs.Cents.{cents, rest}
-use Rattle.ledger.specs.Limits.{Within, farthest_balance, is_zero, reaches}
-use Rattle.ledger.specs.Meaning.{Meaning}
-use Rattle.ledger.specs.Payments.{Raised, fault_of}
+use Rattle.faults.specs.Checks.{first_fault, verdict}
+use Rattle.ledger.specs.declared.terms.Terms.{Terms}
+use Rattle.ledger.specs.Limits.{Within, farthest_balance, is_zero}
+use Rattle.ledger.specs.Meaning.{Meaning, SoundTerms}
+use Rattle.ledger.specs.Payments.{Raised, fault_of, term_checks}
 use Rattle.ledger.specs.Totals.{if_within}
-use Rattle.ledger.proofs.Money.{Reached, back, back_within, fits_within, reach, reached, reaches_back}
+use Rattle.ledger.proofs.Money.{back, back_within, reach}
 use Rattle.ledger.proofs.Paid.{zero_is}
 use Rattle.ledger.proofs.Refused.{not_refused}
-use Rattle.ledger.proofs.Totals.{if_inside, if_outside, if_told, none_some}
+use Rattle.ledger.proofs.Totals.{if_inside, if_outside, if_told}
+use Rattle.balances.specs.declared.place.Place.{Place}
 use Rattle.balances.specs.Lists.{First, has, on_list}
 use Rattle.balances.specs.Sound.{lookup_all}
-use Rattle.balances.proofs.Lookup.{lookup_other, lookup_same, lookup-set}
+use Rattle.balances.proofs.Lookup.{lookup_at, lookup_other, lookup_same, lookup-set}
+use Rattle.balances.proofs.Taken.{Taken, taken, terms_of}
 use Rattle.cents.specs.declared.layer.Found.{Found}
 use Rattle.cents.specs.declared.rest.Rest.{Rest}
-use Rattle.cents.specs.Layer.{layer, layer_total, lowest_over, past, rest_of, serves, value_in}
-use Rattle.cents.specs.Sends.{Below, Finds, Sent}
-use Rattle.cents.proofs.Splits.{cents_size, splits}
-
-not_below : (a b : ℤ) → lt_z a b ≡ false → b ≤ℤ a
-not_below a b e = lt_z_no (subst (λ t. T (not t)) (sym e) tt)
+use Rattle.cents.specs.Layer.{NewLayer, layer, layer_balances, layer_terms, lowest_over, past, rest_of, serves, value_in}
+use Rattle.cents.specs.Sound.{lowest_within}
+use Rattle.cents.specs.Sends.{Below, IsFound, Sent}
+use Rattle.cents.proofs.Splits.{cents_few, cents_size, near_fits, near_shown, splits}
 
 pub rest_small : (xs : List ℕ) (rows : List Rest) (a : ℕ) → rest_of xs rows a < 100
 rest_small xs rows a = lookup_all value_in 0 (λ k. k < 100) (omega arith) (λ row. row.small) xs rows a
 
--- ---- whom the layer knows
+-- the rest that stands at an account's place
+pub rest_at : (xs : List ℕ) (rows : List Rest) (a : ℕ) (p : Place) (row : Rest) → First xs a p.index → length rows ≡ 64 → row ≡ get_or rows p.index row → rest_of xs rows a ≡ row.value
+rest_at xs rows a p row first long e =
+    let i = p.inside in
+    lookup_at value_in 0 xs rows a p.index row first (omega arith) ∙ sym (ap value_in e)
 
-module _ (m : Meaning) (xs : List ℕ) (a : ℕ) where
-  pub serves_not : (has xs a ≡ false) ⊎ (past m.lowest ≡ true) → serves m xs a ≡ false
-  unfolding serves
-  serves_not (inl h) = ap (λ t. (t && not (past m.lowest)) && m.known a) h
-  serves_not (inr h) = ap (λ t. (has xs a && not t) && m.known a) h ∙ ap (λ t. t && m.known a) (and_right (has xs a) false refl)
-
-  pub serves_unknown : m.known a ≡ false → serves m xs a ≡ false
-  unfolding serves
-  serves_unknown h = and_right (has xs a && not (past m.lowest)) (m.known a) h
-
-  pub serves_all : has xs a ≡ true → past m.lowest ≡ false → m.known a ≡ true → serves m xs a ≡ true
-  unfolding serves
-  serves_all h p k = simp (h, p, k)
-
-  serves_parts : serves m xs a ≡ true → (has xs a ≡ true) × (past m.lowest ≡ false) × (m.known a ≡ true)
-  unfolding serves
-  serves_parts e =
-      let p = and_parts (has xs a && not (past m.lowest)) (m.known a) e in
-      let q = and_parts (has xs a) (not (past m.lowest)) p.0 in
-      (q.0, not_not (past m.lowest) q.1, p.1)
-    where
-      not_not : (b : Bool) → not b ≡ true → b ≡ false
-      not_not true h = sym h
-      not_not false h = refl
+-- ---- whom the layer knows, and with which balance
 
 module _ (m : Meaning) (xs : List ℕ) (rows : List Rest) (a : ℕ) where
-  pub total_none : serves m xs a ≡ false → layer_total m xs rows a ≡ None
-  unfolding layer_total
-  total_none h = simp h
+  pub unlisted : has xs a ≡ false → layer_balances m xs rows a ≡ None
+  unfolding layer_balances serves
+  unlisted h = simp h
 
-  pub total_some : serves m xs a ≡ true → layer_total m xs rows a ≡ if_within (m.balance a +ℤ pos (rest_of xs rows a))
-  unfolding layer_total
-  total_some h = simp h
+  pub too_low : past m.lowest ≡ true → layer_balances m xs rows a ≡ None
+  unfolding layer_balances serves
+  too_low h = let e = and_right (has xs a) false refl in simp (h, e)
+
+  pub unknown_below : m.known a ≡ false → layer_balances m xs rows a ≡ None
+  unfolding layer_balances serves
+  unknown_below h = let e = and_right (has xs a && not (past m.lowest)) false refl in simp (h, e)
 
   -- what a known account shows
   pub record Known (z : ℤ) : Type 0 where
@@ -72,110 +60,53 @@ module _ (m : Meaning) (xs : List ℕ) (rows : List Rest) (a : ℕ) where
     pub sum : z ≡ m.balance a +ℤ pos (rest_of xs rows a)
     pub within : Within z
 
-  pub total_told : (z : ℤ) → layer_total m xs rows a ≡ Some z → Known z
-  unfolding layer_total
-  total_told z e = elim (cases_Bool (serves m xs a)) [
+  pub told : (z : ℤ) → layer_balances m xs rows a ≡ Some z → Known z
+  unfolding layer_balances serves
+  told z e = elim (cases_Bool ((has xs a && not (past m.lowest)) && m.known a)) [
     | inl s ↦ (let r = if_told (m.balance a +ℤ pos (rest_of xs rows a)) z (simp s at e) in
-        let p = serves_parts m xs a s in
-        record { listed = p.0; not_past = p.1; known = p.2; sum = r.0; within = r.1 })
-    | inr s ↦ none_some z (simp s at e)
+        let p = and_parts (has xs a && not (past m.lowest)) (m.known a) s in
+        let q = and_parts (has xs a) (not (past m.lowest)) p.0 in
+        record { listed = q.0; not_past = not_not (past m.lowest) q.1; known = p.1; sum = r.0; within = r.1 })
+    | inr s ↦ (let n : None ≡ Some z = simp s at e in absurd cc)
   ]
-
--- ---- what `find` finds
-
-past_at : (l : ℤ) → lt_z (pos farthest_balance) (l +ℤ pos 100) ≡ lt_z (pos 8999999999999999900) l
-past_at l = grind (arith, ints)
-
-pub past_shown : (l k : ℤ) → SFits w64 l → l ≡ k → past k ≡ lt_z (pos 8999999999999999900) (back l)
-unfolding past
-past_shown l k f e = ap past (sym e) ∙ past_at l ∙ ap (lt_z (pos 8999999999999999900)) (sym (to_z-of_z w64 l f))
-
-module _ (b : ℤ) (n : ℕ) (w : Within b) (h : n < 100) where
-  balance_inner : back b +ℤ to_z w64 n ≡ b +ℤ pos n
-  balance_inner = ap (λ z. z +ℤ to_z w64 n) (back_within b w) ∙ ap (λ z. b +ℤ z) (to_z_pos w64 n (omega arith))
-
-  balance_sum : SFits w64 (b +ℤ pos n)
-  balance_sum = omega (arith, ints)
-
-  pub balance_fits : SFits w64 (back b +ℤ to_z w64 n)
-  balance_fits = subst (SFits w64) (sym balance_inner) balance_sum
-
-  pub balance_shown : back (back b +ℤ to_z w64 n) ≡ b +ℤ pos n
-  balance_shown = ap back balance_inner ∙ to_z-of_z w64 (b +ℤ pos n) balance_sum
-
-module _ (m : Meaning) (xs : List ℕ) (rows : List Rest) (a : ℕ) (b z : ℤ) (n : ℕ) (w : Within b) (eb : b ≡ m.balance a) (en : n ≡ rest_of xs rows a) (ez : z ≡ b +ℤ pos n) (s : serves m xs a ≡ true) where
-  sum_is : z ≡ m.balance a +ℤ pos (rest_of xs rows a)
-  sum_is = ez ∙ ap (λ y. y +ℤ pos n) eb ∙ ap (λ k. m.balance a +ℤ pos k) en
-
-  pub found_none : lt_z (pos farthest_balance) z ≡ true → layer_total m xs rows a ≡ None
-  found_none h = total_some m xs rows a s ∙ ap if_within (sym sum_is) ∙ if_outside z (above z h)
     where
-      above : (y : ℤ) → lt_z (pos farthest_balance) y ≡ true → farthest_balance < nat_abs y
-      above y h = grind (arith, ints)
+      not_not : (b : Bool) → not b ≡ true → b ≡ false
+      not_not true h = sym h
+      not_not false h = refl
 
-  pub found_some : lt_z (pos farthest_balance) z ≡ false → layer_total m xs rows a ≡ Some z
-  found_some h =
-      let hi = not_below (pos farthest_balance) z h in
-      let size : Within z = omega (arith, ints) in
-      total_some m xs rows a s ∙ ap if_within (sym sum_is) ∙ if_inside z size
+  -- an account with the balance b below and the rest n
+  module _ (b : ℤ) (n : ℕ) (listed : has xs a ≡ true) (low : past m.lowest ≡ false) (known : m.known a ≡ true) (below : m.balance a ≡ b) (left : rest_of xs rows a ≡ n) where
+    pub sum_served : layer_balances m xs rows a ≡ if_within (b +ℤ pos n)
+    unfolding layer_balances serves
+    sum_served = rw (listed, low, known, below, left)
 
-pub found_test : (m : Meaning) (xs : List ℕ) (rows : List Rest) (a : ℕ) (o : Option Found) → Finds m xs rows a o → is_some o ≡ is_some (layer_total m xs rows a)
-found_test m xs rows a None e = ap is_some (sym e)
-found_test m xs rows a (Some f) e = ap is_some (sym e.total)
+    pub found_none : lt_z (pos farthest_balance) (b +ℤ pos n) ≡ true → layer_balances m xs rows a ≡ None
+    found_none h = sum_served ∙ if_outside (b +ℤ pos n) (above (b +ℤ pos n) h)
+      where
+        above : (y : ℤ) → lt_z (pos farthest_balance) y ≡ true → farthest_balance < nat_abs y
+        above y h = grind (arith, ints)
+
+    pub found_some : Within b → lt_z (pos farthest_balance) (b +ℤ pos n) ≡ false → layer_balances m xs rows a ≡ Some (b +ℤ pos n)
+    found_some w h = sum_served ∙ if_inside (b +ℤ pos n) (inside b n w h)
+      where
+        inside : (b : ℤ) (n : ℕ) → Within b → lt_z (pos farthest_balance) (b +ℤ pos n) ≡ false → Within (b +ℤ pos n)
+        inside b n w h = grind (arith, ints)
 
 -- ---- the layer's range
 
-pub lowest_past : (l : ℤ) → past l ≡ true → lowest_over l ≡ pos farthest_balance
-lowest_past l p = simp p
+-- the test of a lowest balance, as the code makes it
+pub past_told : (l k : ℤ) → Within l → l ≡ k → past k ≡ lt_z (pos farthest_balance) (back (back l +ℤ pos 100))
+unfolding past
+past_told l k w e = rw (← e) (ap (lt_z (pos farthest_balance)) (sym (near_shown l 100 w (omega arith))))
 
-pub lowest_not : (l : ℤ) → past l ≡ false → lowest_over l ≡ l +ℤ pos 100
-lowest_not l p = simp p
-
-pub lowest_shown : (l : ℤ) → Within l → past l ≡ false → back (back l +ℤ pos 100) ≡ lowest_over l
-lowest_shown l w p =
-    let s : SFits w64 (l +ℤ pos 100) = omega (arith, ints) in
-    ap (λ z. back (z +ℤ pos 100)) (back_within l w) ∙ to_z-of_z w64 (l +ℤ pos 100) s ∙ sym (lowest_not l p)
-
--- the test of a range, as the code makes it
-module _ (m : Meaning) (xs : List ℕ) (rows : List Rest) (a : ℕ) (x l h b : ℤ) (fl : SFits w64 l) (fh : SFits w64 h) (fx : SFits w64 x) (el : l ≡ lowest_over m.lowest) (eh : h ≡ m.highest) (es : layer_total m xs rows a ≡ Some b) where
-  pub range_at : reaches (lowest_over m.lowest) m.highest b x ≡ reaches (back l) (back h) (back b) (back x)
-  range_at =
-      ap (λ z. reaches z m.highest b x) (sym el) ∙ ap (λ z. reaches l z b x) (sym eh)
-      ∙ sym (reaches_back l h b x fl fh (fits_within b (total_told m xs rows a b es).within) fx)
-
-  pub range_shown : reaches (lowest_over m.lowest) m.highest (unwrap_or (layer_total m xs rows a) (pos 0)) x ≡ reaches (back l) (back h) (back b) (back x)
-  range_shown = ap (λ o. reaches (lowest_over m.lowest) m.highest (unwrap_or o (pos 0)) x) es ∙ range_at
-
--- ---- a payment
-
-module _ (m : Meaning) (xs : List ℕ) (rows : List Rest) (a : ℕ) (x b : ℤ) (k : Known m xs rows a b) (in_range : reaches (lowest_over m.lowest) m.highest b x ≡ true) where
-  old : ℕ
-  old = rest_of xs rows a
-
-  parts : Reached (m.lowest +ℤ pos 100) m.highest b x
-  parts = reached (m.lowest +ℤ pos 100) m.highest b x (ap (λ l. reaches l m.highest b x) (sym (lowest_not m.lowest k.not_past)) ∙ in_range)
-
-  pub amount_size : nat_abs x ≤ 4000000000000000000
-  amount_size = parts.small
-
-  -- what goes below is never refused
-  pub below_open : 0 < m.capacity → fault_of m a (cents (x +ℤ pos (rest_of xs rows a)) *ℤ pos 100) ≡ None
-  below_open room =
-      let s = splits (x +ℤ pos (rest_of xs rows a)) in
-      let e = s.sum in
-      let r = s.small in
-      let o = rest_small xs rows a in
-      let size = cents_size x (rest_of xs rows a) parts.small o in
-      let sum = k.sum in
-      let lo = parts.above in
-      let hi = parts.below in
-      not_refused m a (cents (x +ℤ pos (rest_of xs rows a)) *ℤ pos 100) k.known (reach m.lowest m.highest (m.balance a) (cents (x +ℤ pos (rest_of xs rows a)) *ℤ pos 100) (record { small = size; above = omega (arith, ints); below = omega (arith, ints) })) room
-
-  pub new_within : Within m.lowest → Within m.highest → Within (b +ℤ x)
-  new_within wl wh = let lo = parts.above in let hi = parts.below in omega (arith, ints)
+pub terms_told : (s t : Terms) (l : ℤ) → Within t.lowest → Within t.highest → s ≡ t → l ≡ int_min (back (back s.lowest +ℤ pos 100)) (pos farthest_balance) → ◌≡◌ {A = Terms} (record { capacity = s.capacity; lowest = back l; highest = back s.highest }) (layer_terms t)
+unfolding past
+terms_told s t l low high e m =
+    let is : l ≡ lowest_over t.lowest = rw (e, near_shown t.lowest 100 low (omega arith)) at m in
+    rw (e, is, back_within (lowest_over t.lowest) (lowest_within t.lowest low), back_within t.highest high)
 
 -- either way the ledger below is raised by the whole cents
-pub below_raised : (t : Bool) (m : Meaning) (a : ℕ) (c : ℤ) (n : Meaning) → is_zero c ≡ t → Below t m a c n → Raised m a (c *ℤ pos 100) n
+below_raised : (t : Bool) (m : Meaning) (a : ℕ) (c : ℤ) (n : Meaning) → is_zero c ≡ t → Below t m a c n → Raised m a (c *ℤ pos 100) n
 below_raised false m a c n e r = r
 below_raised true m a c n e s =
     let z = zero_is c e in
@@ -183,64 +114,120 @@ below_raised true m a c n e s =
     let here = s.balance a in
     record { known = s.known; here = omega (arith, ints); others = λ d _. s.balance d; capacity = inl s.capacity; lowest = s.lowest; highest = s.highest }
 
-module _ (m n : Meaning) (xs : List ℕ) (rows : List Rest) (a i : ℕ) (row : Rest) (b x : ℤ) (first : First xs a i) (short : i < length rows) (total : layer_total m xs rows a ≡ Some b) (is : row.value ≡ rest (x +ℤ pos (rest_of xs rows a))) where
-  private_rest : rest_of xs (set rows i row) a ≡ rest (x +ℤ pos (rest_of xs rows a))
-  private_rest = lookup-set value_in 0 xs rows a i row first short ∙ is
+-- ---- a payment that the layer's terms take
 
-  other_rest : (d : ℕ) → (d ≡ a → ⊥) → rest_of xs (set rows i row) d ≡ rest_of xs rows d
-  other_rest d ne = lookup_other value_in 0 xs rows a i d row first.below first.here ne
+-- the amount and the old rest
+abbrev pub sum_of : List ℕ → List Rest → ℕ → ℤ → ℤ
+sum_of xs rows a x = x +ℤ pos (rest_of xs rows a)
 
-  pub layer_sent : Below (is_zero (cents (x +ℤ pos (rest_of xs rows a)))) m a (cents (x +ℤ pos (rest_of xs rows a))) n → Sent m xs rows a (x +ℤ pos (rest_of xs rows a)) n xs (set rows i row)
-  layer_sent g = record { below = g; accounts = refl; kept = private_rest; others = other_rest }
+pub layer_taken : {U : Type 0} (u v : U) (m : Meaning) (xs : List ℕ) (rows : List Rest) (a : ℕ) (x : ℤ) (f : Found) (s : Terms) → IsFound m xs rows a f → SoundTerms {S = Unit {0}} (λ _. terms_of m) → SFits w64 x → s ≡ layer_terms (terms_of m) → Ok u ≡ verdict v (first_fault (term_checks s a (back f.balance) (back x))) → Taken (layer_terms (terms_of m)) a f.balance x
+layer_taken u v m xs rows a x f s found sound fits is ok =
+    taken u v s (layer_terms (terms_of m)) a f.balance x (lowest_within m.lowest (sound.lowest tt)) (sound.highest tt) (told m xs rows a f.balance found.total).within fits is ok
 
-  module _ (r : Raised m a (cents (x +ℤ pos (rest_of xs rows a)) *ℤ pos 100) n) (new : Within (b +ℤ x)) where
+module _ (m : Meaning) (xs : List ℕ) (rows : List Rest) (a : ℕ) (x : ℤ) (f : Found) (found : IsFound m xs rows a f) (taken : Taken (layer_terms (terms_of m)) a f.balance x) where
+  known : Known m xs rows a f.balance
+  known = told m xs rows a f.balance found.total
+
+  small : nat_abs x ≤ 4000000000000000000
+  small = taken.reaches.small
+
+  left : f.rest < 100
+  left = rw found.rest (rest_small xs rows a)
+
+  pub sum_fits : SFits w64 (back x +ℤ back (pos f.rest))
+  sum_fits = let s = small in let o = left in near_fits x f.rest (omega arith) (omega arith)
+
+  pub sum_told : back (back x +ℤ back (pos f.rest)) ≡ sum_of xs rows a x
+  sum_told = let s = small in let o = left in near_shown x f.rest (omega arith) (omega arith) ∙ ap (λ n. x +ℤ pos n) found.rest
+
+  pub sent_told : (c : ℤ) → SFits w64 c → c ≡ cents (back (back x +ℤ back (pos f.rest))) → back c ≡ cents (sum_of xs rows a x)
+  sent_told c s e = to_z-of_z w64 c s ∙ e ∙ ap cents sum_told
+
+  pub sent_few : nat_abs (cents (sum_of xs rows a x)) ≤ 40000000000000001
+  sent_few = cents_few x (rest_of xs rows a) small (rest_small xs rows a)
+
+  -- what goes below is never refused
+  pub sent_open : fault_of m a (cents (sum_of xs rows a x) *ℤ pos 100) ≡ None
+  sent_open =
+      let s = splits (sum_of xs rows a x) in
+      let e = s.sum in
+      let r = s.small in
+      let o = rest_small xs rows a in
+      let size = cents_size x (rest_of xs rows a) small o in
+      let z = known.sum in
+      let p = known.not_past in
+      let l : lowest_over m.lowest ≡ m.lowest +ℤ pos 100 = simp p in
+      let lo : (m.lowest +ℤ pos 100) ≤ℤ (f.balance +ℤ x) = rw l at taken.reaches.above in
+      let hi : (f.balance +ℤ x) ≤ℤ m.highest = taken.reaches.below in
+      not_refused m a (cents (sum_of xs rows a x) *ℤ pos 100) known.known (reach m.lowest m.highest (m.balance a) (cents (sum_of xs rows a x) *ℤ pos 100) (record { small = size; above = omega (arith, ints); below = omega (arith, ints) })) taken.room
+
+  -- the meaning n of the ledger below after it, and the rest that is kept
+  module _ (n : Meaning) (row : Rest) (below : Below (is_zero (cents (sum_of xs rows a x))) m a (cents (sum_of xs rows a x)) n) (kept : row.value ≡ rest (sum_of xs rows a x)) where
+    after : List Rest
+    after = set rows f.place.index row
+
+    short : f.place.index < length rows
+    short = let i = f.place.inside in let l = found.long in omega arith
+
+    rest_here : rest_of xs (set rows f.place.index row) a ≡ rest (sum_of xs rows a x)
+    rest_here = lookup-set value_in 0 xs rows a f.place.index row found.first short ∙ kept
+
+    rest_other : (d : ℕ) → (d ≡ a → ⊥) → rest_of xs (set rows f.place.index row) d ≡ rest_of xs rows d
+    rest_other d ne = lookup_other value_in 0 xs rows a f.place.index d row found.first.below found.first.here ne
+
+    pub layer_sent : Sent m xs rows a (sum_of xs rows a x) n xs (set rows f.place.index row)
+    layer_sent = record { below = below; accounts = refl; kept = rest_here; others = rest_other }
+
+    raised : Raised m a (cents (sum_of xs rows a x) *ℤ pos 100) n
+    raised = below_raised (is_zero (cents (sum_of xs rows a x))) m a (cents (sum_of xs rows a x)) n refl below
+
     serves_same : (d : ℕ) → serves n xs d ≡ serves m xs d
     unfolding serves
-    serves_same d = let l = r.lowest in let q = r.known d in simp (l, q)
+    serves_same d = rw (raised.lowest, raised.known d)
 
-    total_other : (d : ℕ) → (d ≡ a → ⊥) → layer_total n xs (set rows i row) d ≡ layer_total m xs rows d
-    unfolding layer_total
+    total_other : (d : ℕ) → (d ≡ a → ⊥) → layer_balances n xs (set rows f.place.index row) d ≡ layer_balances m xs rows d
+    unfolding layer_balances
     total_other d ne =
         let s = serves_same d in
-        let h = r.others d ne in
-        let o = other_rest d ne in
+        let h = raised.others d ne in
+        let o = rest_other d ne in
         simp (s, h, o)
 
-    total_here : layer_total n xs (set rows i row) a ≡ Some (b +ℤ x)
+    total_here : layer_balances n xs (set rows f.place.index row) a ≡ Some (f.balance +ℤ x)
     total_here =
-        let k = total_told m xs rows a b total in
-        let s = (splits (x +ℤ pos (rest_of xs rows a))).sum in
-        let sum = k.sum in
-        let here = r.here in
-        let e : n.balance a +ℤ pos (rest (x +ℤ pos (rest_of xs rows a))) ≡ b +ℤ x = omega (arith, ints) in
-        total_some n xs (set rows i row) a (serves_same a ∙ serves_all m xs a k.listed k.not_past k.known)
-        ∙ ap (λ q. if_within (n.balance a +ℤ pos q)) private_rest ∙ ap if_within e ∙ if_inside (b +ℤ x) new
+        let s = (splits (sum_of xs rows a x)).sum in
+        let z = known.sum in
+        let here = raised.here in
+        let e : n.balance a +ℤ pos (rest (sum_of xs rows a x)) ≡ f.balance +ℤ x = omega (arith, ints) in
+        sum_served n xs (set rows f.place.index row) a (n.balance a) (rest (sum_of xs rows a x)) known.listed (rw raised.lowest known.not_past) (raised.known a ∙ known.known) refl rest_here
+        ∙ ap if_within e ∙ if_inside (f.balance +ℤ x) taken.within
 
-    pub layer_raised : Raised (layer m xs rows) a x (layer n xs (set rows i row))
+    pub layer_raised : Raised (layer m xs rows) a x (layer n xs (set rows f.place.index row))
     layer_raised = record {
       known = λ d. elim (cases_eq d a) [
-        | inl q ↦ ap is_some (ap (layer_total n xs (set rows i row)) q ∙ total_here) ∙ sym (ap is_some (ap (layer_total m xs rows) q ∙ total))
+        | inl q ↦ rw (q, total_here, found.total)
         | inr q ↦ ap is_some (total_other d q)
       ];
-      here = ap (λ o. unwrap_or o (pos 0)) total_here ∙ ap (λ o. unwrap_or o (pos 0) +ℤ x) (sym total);
+      here = rw (total_here, found.total);
       others = λ d q. ap (λ o. unwrap_or o (pos 0)) (total_other d q);
-      capacity = r.capacity;
-      lowest = ap lowest_over r.lowest;
-      highest = r.highest;
+      capacity = raised.capacity;
+      lowest = ap lowest_over raised.lowest;
+      highest = raised.highest;
     }
 
 -- ---- a new layer
 
-module _ (m : Meaning) (xs list : List ℕ) (rows : List Rest) (row : Rest) (zero : row.value ≡ 0) (same : rows ≡ replicate 64 row) (on : (a : ℕ) → has xs a ≡ on_list list a) (within : (a : ℕ) → Within (m.balance a)) where
+module _ (m : Meaning) (xs list : List ℕ) (rows : List Rest) (row : Rest) (zero : row.value ≡ 0) (same : rows ≡ replicate 64 row) (few : length xs ≤ 64) (on : (a : ℕ) → has xs a ≡ on_list list a) (within : (a : ℕ) → Within (m.balance a)) where
   rest_zero : (a : ℕ) → rest_of xs rows a ≡ 0
-  rest_zero a = ap (λ q. rest_of xs q a) same ∙ lookup_same value_in 0 64 row zero xs a
+  rest_zero a = ap (λ q. rest_of xs q a) same ∙ lookup_same value_in 0 64 row xs a few ∙ rw zero (same_arms (has xs a) 0)
+    where
+      same_arms : (t : Bool) (n : ℕ) → cond t n n ≡ n
+      same_arms true n = refl
+      same_arms false n = refl
 
-  new_total : (a : ℕ) → layer_total m xs rows a ≡ cond (serves m xs a) (Some (m.balance a)) None
-  unfolding layer_total
-  new_total a =
-      ap (λ k. cond (serves m xs a) (if_within (m.balance a +ℤ pos k)) None) (rest_zero a)
-      ∙ ap (λ z. cond (serves m xs a) (if_within z) None) (+ℤ_idr (m.balance a))
-      ∙ ap (λ o. cond (serves m xs a) o None) (if_inside (m.balance a) (within a))
+  new_total : (a : ℕ) → layer_balances m xs rows a ≡ cond ((on_list list a && not (past m.lowest)) && m.known a) (Some (m.balance a)) None
+  unfolding layer_balances serves
+  new_total a = rw (on a, rest_zero a, +ℤ_idr (m.balance a), if_inside (m.balance a) (within a))
 
   some_cond : (t : Bool) (z : ℤ) → is_some (cond t (Some z) None) ≡ t
   some_cond true z = refl
@@ -250,9 +237,11 @@ module _ (m : Meaning) (xs list : List ℕ) (rows : List Rest) (row : Rest) (zer
   value_cond true z = refl
   value_cond false z = refl
 
-  pub new_known : (a : ℕ) → is_some (layer_total m xs rows a) ≡ ((on_list list a && not (past m.lowest)) && m.known a)
-  unfolding serves
-  new_known a = ap is_some (new_total a) ∙ some_cond (serves m xs a) (m.balance a) ∙ ap (λ t. (t && not (past m.lowest)) && m.known a) (on a)
-
-  pub new_balance : (a : ℕ) → unwrap_or (layer_total m xs rows a) (pos 0) ≡ cond (is_some (layer_total m xs rows a)) (m.balance a) (pos 0)
-  new_balance a = subst (λ o. unwrap_or o (pos 0) ≡ cond (is_some o) (m.balance a) (pos 0)) (sym (new_total a)) (value_cond (serves m xs a) (m.balance a))
+  pub new_layer : NewLayer m list (layer m xs rows)
+  new_layer = record {
+    known = λ a. ap is_some (new_total a) ∙ some_cond _ (m.balance a);
+    balance = λ a. rw (new_total a) (value_cond _ (m.balance a));
+    capacity = refl;
+    lowest = refl;
+    highest = refl;
+  }

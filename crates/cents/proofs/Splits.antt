@@ -1,8 +1,25 @@
--- An amount and a rest, split into whole cents and a new rest.
-use Rattle.std.proofs.Common.{◌≡◌, ℕ, ◌%◌, ◌<◌, ◌≤◌, ℤ, pos, negsuc, ◌+ℤ◌, ◌*ℤ◌, nat_abs, sym, ap, ◌∙◌, subst, mod-lt, div-add-mod', arith, w64, SFits, to_z}
-use Rattle.std.proofs.lemmas.Int.{to_z-of_z, to_z_pos, ints}
+-- Sums of a signed amount and a rest, and their split into whole cents and a new rest.
+use Rattle.std.proofs.Common.{◌≡◌, ℕ, ◌%◌, ◌<◌, ◌≤◌, ℤ, pos, negsuc, ◌+ℤ◌, ◌*ℤ◌, nat_abs, mod-lt, div-add-mod', arith, w64, SFits}
+use Rattle.std.proofs.lemmas.Int.{to_z-of_z, ints}
+use Rattle.ledger.specs.Limits.{Within}
 use Rattle.prices.specs.Cents.{cents, rest}
-use Rattle.ledger.proofs.Money.{back}
+use Rattle.ledger.proofs.Money.{back, fits_within}
+
+-- up to a cent more than a balance is within 64 bits
+module _ (b : ℤ) (n : ℕ) (w : Within b) (h : n ≤ 100) where
+  pub near_fits : SFits w64 (back b +ℤ back (pos n))
+  near_fits =
+      let s : SFits w64 (b +ℤ pos n) = omega (arith, ints) in
+      let f = fits_within b w in
+      let g : SFits w64 (pos n) = omega (arith, ints) in
+      simp to_z-of_z s
+
+  pub near_shown : back (back b +ℤ back (pos n)) ≡ b +ℤ pos n
+  near_shown =
+      let s : SFits w64 (b +ℤ pos n) = omega (arith, ints) in
+      let f = fits_within b w in
+      let g : SFits w64 (pos n) = omega (arith, ints) in
+      simp to_z-of_z
 
 -- the parts of a sum z
 pub record Split (z : ℤ) : Type 0 where
@@ -18,6 +35,10 @@ whole_size : (c : ℤ) → nat_abs (c *ℤ pos 100) ≤ 4000000000000000099 → 
 whole_size (pos n) h = omega (arith, ints)
 whole_size (negsuc n) h = omega (arith, ints)
 
+few : (c : ℤ) → nat_abs (c *ℤ pos 100) ≤ 4000000000000000000 → nat_abs c ≤ 40000000000000001
+few (pos n) h = omega (arith, ints)
+few (negsuc n) h = omega (arith, ints)
+
 module _ (x : ℤ) (o : ℕ) (size : nat_abs x ≤ 4000000000000000000) (h : o < 100) where
   pub cents_size : nat_abs (cents (x +ℤ pos o) *ℤ pos 100) ≤ 4000000000000000000
   cents_size =
@@ -28,22 +49,3 @@ module _ (x : ℤ) (o : ℕ) (size : nat_abs x ≤ 4000000000000000000) (h : o <
 
   pub cents_few : nat_abs (cents (x +ℤ pos o)) ≤ 40000000000000001
   cents_few = few (cents (x +ℤ pos o)) cents_size
-    where
-      few : (c : ℤ) → nat_abs (c *ℤ pos 100) ≤ 4000000000000000000 → nat_abs c ≤ 40000000000000001
-      few (pos n) h = omega (arith, ints)
-      few (negsuc n) h = omega (arith, ints)
-
-  module _ (f : SFits w64 x) where
-    inner : back x +ℤ to_z w64 o ≡ x +ℤ pos o
-    inner =
-        let e : to_z w64 o ≡ pos o = to_z_pos w64 o (omega arith) in
-        ap (λ z. z +ℤ to_z w64 o) (to_z-of_z w64 x f) ∙ ap (λ z. x +ℤ z) e
-
-    fits : SFits w64 (x +ℤ pos o)
-    fits = omega (arith, ints)
-
-    pub sum_fits : SFits w64 (back x +ℤ to_z w64 o)
-    sum_fits = subst (SFits w64) (sym inner) fits
-
-    pub sum_shown : back (back x +ℤ to_z w64 o) ≡ x +ℤ pos o
-    sum_shown = ap back inner ∙ to_z-of_z w64 (x +ℤ pos o) fits

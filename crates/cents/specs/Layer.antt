@@ -1,8 +1,9 @@
 -- The meaning of a cents layer over a ledger that means m, with the accounts xs and the rests beside them.
 use Rattle.std.specs.Prelude.{◌≡◌, ℕ, Bool, cond, not, ◌&&◌, List, ℤ, pos, ◌+ℤ◌, None, Option, int_lt}
 use Rattle.ledger.specs.Limits.{farthest_balance}
-use Rattle.ledger.specs.Meaning.{Meaning, Reading, Terms, meaning}
-use Rattle.ledger.specs.Totals.{if_within, reading_of}
+use Rattle.ledger.specs.declared.terms.Terms.{Terms}
+use Rattle.ledger.specs.Meaning.{Meaning, meaning}
+use Rattle.ledger.specs.Totals.{if_within}
 use Rattle.balances.specs.Lists.{has, on_list}
 use Rattle.balances.specs.Lookup.{lookup}
 use Rattle.cents.specs.declared.rest.Rest.{Rest}
@@ -26,18 +27,15 @@ unfoldable pub serves : Meaning → List ℕ → ℕ → Bool
 serves m xs a = (has xs a && not (past m.lowest)) && m.known a
 
 -- an account's balance is the one below plus the rest
-unfoldable pub layer_total : Meaning → List ℕ → List Rest → ℕ → Option ℤ
-layer_total m xs rows a = cond (serves m xs a) (if_within (m.balance a +ℤ pos (rest_of xs rows a))) None
-
-abbrev pub layer_reading : Meaning → List ℕ → List Rest → Reading
-layer_reading m xs rows = reading_of (layer_total m xs rows)
+unfoldable pub layer_balances : Meaning → List ℕ → List Rest → ℕ → Option ℤ
+layer_balances m xs rows a = cond (serves m xs a) (if_within (m.balance a +ℤ pos (rest_of xs rows a))) None
 
 abbrev pub layer_terms : Terms → Terms
 layer_terms t = record { capacity = t.capacity; lowest = lowest_over t.lowest; highest = t.highest }
 
 abbrev pub layer : Meaning → List ℕ → List Rest → Meaning
 layer m xs rows =
-    meaning {S = Unit {0}} (λ _. layer_reading m xs rows) (λ _. layer_terms (record { capacity = m.capacity; lowest = m.lowest; highest = m.highest })) tt
+    meaning {S = Unit {0}} (λ _. layer_balances m xs rows) (λ _. layer_terms (record { capacity = m.capacity; lowest = m.lowest; highest = m.highest })) tt
 
 -- a new layer n over the ledger m: it knows the accounts of the list that are known below, with the balances below
 pub record NewLayer (m : Meaning) (list : List ℕ) (n : Meaning) : Type 0 where

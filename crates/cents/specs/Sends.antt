@@ -9,7 +9,7 @@ use Rattle.balances.specs.Lists.{First}
 use Rattle.balances.specs.Places.{places}
 use Rattle.cents.specs.declared.layer.Found.{Found}
 use Rattle.cents.specs.declared.rest.Rest.{Rest}
-use Rattle.cents.specs.Layer.{layer_total, rest_of}
+use Rattle.cents.specs.Layer.{layer_balances, rest_of}
 
 -- the ledger below takes whole cents, unless there are none
 abbrev pub Below : Bool → Meaning → ℕ → ℤ → Meaning → Type 0
@@ -34,11 +34,11 @@ Sends m xs rows a x (Err fault) n ys after = Same m n × (ys ≡ xs) × (after �
 
 -- what the layer finds of an account
 pub record IsFound (m : Meaning) (xs : List ℕ) (rows : List Rest) (a : ℕ) (f : Found) : Type 0 where
-  pub total : layer_total m xs rows a ≡ Some f.balance
+  pub total : layer_balances m xs rows a ≡ Some f.balance
   pub first : First xs a f.place.index
   pub rest : f.rest ≡ rest_of xs rows a
   pub long : length rows ≡ places
 
 abbrev pub Finds : Meaning → List ℕ → List Rest → ℕ → Option Found → Type 0
-Finds m xs rows a None = layer_total m xs rows a ≡ None
+Finds m xs rows a None = layer_balances m xs rows a ≡ None
 Finds m xs rows a (Some f) = IsFound m xs rows a f

@@ -6,18 +6,19 @@ use Rattle.std.proofs.lemmas.Int.{ints}
 use Rattle.std.proofs.lemmas.Bool.{cases_Bool}
 use Rattle.std.specs.Option.{unwrap_or}
 use Rattle.ledger.specs.Limits.{Within, farthest_balance}
-use Rattle.ledger.specs.Meaning.{Meaning, SoundReading, SoundTerms, Terms}
+use Rattle.ledger.specs.declared.terms.Terms.{Terms}
+use Rattle.ledger.specs.Meaning.{Meaning, SoundReading, SoundTerms, reading_of}
 use Rattle.ledger.specs.Sound.{sound_totals, value_under, value_within}
 use Rattle.ledger.specs.Totals.{if_within}
 use Rattle.cents.specs.declared.rest.Rest.{Rest}
-use Rattle.cents.specs.Layer.{layer_reading, layer_terms, layer_total, lowest_over, past, rest_of, serves}
+use Rattle.cents.specs.Layer.{layer_terms, layer_balances, lowest_over, past, rest_of, serves}
 
-total_within : (m : Meaning) (xs : List ℕ) (rows : List Rest) (a : ℕ) → Within (unwrap_or (layer_total m xs rows a) (pos 0))
-unfolding layer_total
+total_within : (m : Meaning) (xs : List ℕ) (rows : List Rest) (a : ℕ) → Within (unwrap_or (layer_balances m xs rows a) (pos 0))
+unfolding layer_balances
 total_within m xs rows a = value_under (serves m xs a) (if_within (m.balance a +ℤ pos (rest_of xs rows a))) (value_within (m.balance a +ℤ pos (rest_of xs rows a)))
 
-pub layer_sound : {S : Type 0} (m : S → Meaning) (xs : S → List ℕ) (rows : S → List Rest) → SoundReading (λ s. layer_reading (m s) (xs s) (rows s))
-layer_sound m xs rows = sound_totals (λ s. layer_total (m s) (xs s) (rows s)) (λ s a. total_within (m s) (xs s) (rows s) a)
+pub layer_sound : {S : Type 0} (m : S → Meaning) (xs : S → List ℕ) (rows : S → List Rest) → SoundReading (λ s. reading_of (layer_balances (m s) (xs s) (rows s)))
+layer_sound m xs rows = sound_totals (λ s. layer_balances (m s) (xs s) (rows s)) (λ s a. total_within (m s) (xs s) (rows s) a)
 
 not_past : (l : ℤ) → Within l → int_lt (pos farthest_balance) (l +ℤ pos 100) ≡ false → Within (l +ℤ pos 100)
 not_past l w e = let h : (l +ℤ pos 100) ≤ℤ pos farthest_balance = lt_z_no (subst (λ t. T (not t)) (sym e) tt) in omega (arith, ints)

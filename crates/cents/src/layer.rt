@@ -1,8 +1,8 @@
-ghost use Rattle.std.specs.Prelude.{◌≡◌, ◌≤◌, pos, ◌*ℤ◌, unsigned_abs};
+ghost use Rattle.std.specs.Prelude.{◌≡◌, ◌≤◌, unsigned_abs};
 ghost use Rattle.balances.specs.Accounts.{listed};
 ghost use Rattle.ledger.specs.Meaning.{meaning};
 ghost use Rattle.ledger.specs.Payments.{Pays};
-ghost use Rattle.cents.specs.Layer.{NewLayer, layer, layer_reading, layer_terms};
+ghost use Rattle.cents.specs.Layer.{NewLayer, layer, layer_balances, layer_terms};
 ghost use Rattle.cents.specs.Sends.{Finds, PaysCents, Sends};
 ghost use Rattle.cents.specs.Sound.{layer_bounded, layer_sound};
 
@@ -10,7 +10,8 @@ use crate::rest::Rest;
 use balances::place::Place;
 use balances::rows::Rows;
 use faults::{Fault, Refusal};
-use ledger::limits::{HIGHEST_BALANCE, is_in_range};
+use ledger::limits::HIGHEST_BALANCE;
+use ledger::terms::Terms;
 use ledger::traits::{BalanceReader, CashLedger};
 use prices::cents::split;
 
@@ -32,33 +33,27 @@ struct Found {
     balance: i64,
 }
 
-// Cents in ten-thousandths of a dollar.
-fn money_of(cents: i64) -> i64
-    requires { unsigned_abs cents ≤ 40000000000000001 }
-    ensures { result ≡ cents *ℤ pos 100 }
-{
-    cents * CENT
-}
-
 // Pays whole cents, unless there are none.
 fn pay_cents<L: CashLedger>(ledger: &mut L, account: u32, cents: i64) -> Result<(), Fault>
     requires { unsigned_abs cents ≤ 40000000000000001 }
-    ensures { PaysCents (meaning L.BalanceReader.reading L.CashLedger.terms ledger.old) account cents result (meaning L.BalanceReader.reading L.CashLedger.terms ledger.new) }
+    ensures { PaysCents (meaning L.BalanceReader.balances L.CashLedger.terms ledger.old) account cents result (meaning L.BalanceReader.balances L.CashLedger.terms ledger.new) }
 {
     if cents == 0 {
         return Ok(());
     }
-    ledger.pay(account, money_of(cents))
+    ledger.pay(account, cents * CENT)
 }
 
 impl<L: CashLedger> Cents<L> {
     // A layer over the accounts of a list, with rests of 0. A refused list makes a layer that knows none.
     pub fn new(below: L, list: &[u32]) -> Cents<L>
         ensures kept { result.below ≡ below }
-        ensures layer { NewLayer (meaning L.BalanceReader.reading L.CashLedger.terms below) list.now (layer (meaning L.BalanceReader.reading L.CashLedger.terms result.below) (listed result.rests.accounts) result.rests.rows) }
+        ensures layer { NewLayer (meaning L.BalanceReader.balances L.CashLedger.terms below) list.now (layer (meaning L.BalanceReader.balances L.CashLedger.terms result.below) (listed result.rests.accounts) result.rests.rows) }
     {
-        let rests = Rows::new(list, Rest { value: 0 });
-        Cents { below, rests }
+        Cents {
+            below,
+            rests: Rows::new(list, Rest { value: 0 }),
+        }
     }
 
     // The ledger below.
@@ -69,19 +64,14 @@ impl<L: CashLedger> Cents<L> {
     }
 
     fn find(&self, account: u32) -> Option<Found>
-        ensures { Finds (meaning L.BalanceReader.reading L.CashLedger.terms self.now.below) (listed self.now.rests.accounts) self.now.rests.rows account result }
+        ensures { Finds (meaning L.BalanceReader.balances L.CashLedger.terms self.now.below) (listed self.now.rests.accounts) self.now.rests.rows account result }
     {
-        let Some(place) = self.rests.place(account) else {
-            return None;
-        };
-        if self.below.lowest_balance() > HIGHEST_BALANCE - CENT {
-            return None;
-        }
-        if !self.below.is_known(account) {
+        let place = self.rests.place(account)?;
+        if self.below.lowest_balance() + CENT > HIGHEST_BALANCE {
             return None;
         }
         let rest = self.rests.at(place).value;
-        let balance = self.below.balance_of(account) + rest as i64;
+        let balance = self.below.balance(account)? + i64::from(rest);
         if balance > HIGHEST_BALANCE {
             return None;
         }
@@ -94,19 +84,13 @@ impl<L: CashLedger> Cents<L> {
 }
 
 impl<L: CashLedger> BalanceReader for Cents<L> {
-    ghost reading = { λ s. layer_reading (meaning L.BalanceReader.reading L.CashLedger.terms s.below) (listed s.rests.accounts) s.rests.rows };
+    ghost balances = { λ s. layer_balances (meaning L.BalanceReader.balances L.CashLedger.terms s.below) (listed s.rests.accounts) s.rests.rows };
 
-    ghost sound = { layer_sound (λ s. meaning L.BalanceReader.reading L.CashLedger.terms s.below) (λ s. listed s.rests.accounts) (λ s. s.rests.rows) };
+    ghost sound = { layer_sound (λ s. meaning L.BalanceReader.balances L.CashLedger.terms s.below) (λ s. listed s.rests.accounts) (λ s. s.rests.rows) };
 
-    fn is_known(&self, account: u32) -> bool {
-        self.find(account).is_some()
-    }
-
-    fn balance_of(&self, account: u32) -> i64 {
-        match self.find(account) {
-            Some(found) => found.balance,
-            None => 0,
-        }
+    fn balance(&self, account: u32) -> Option<i64> {
+        let found = self.find(account)?;
+        Some(found.balance)
     }
 }
 
@@ -115,52 +99,26 @@ impl<L: CashLedger> CashLedger for Cents<L> {
 
     ghost bounded = { layer_bounded L.CashLedger.terms (λ s. s.below) L.CashLedger.bounded };
 
-    fn capacity(&self) -> u64 {
-        self.below.capacity()
-    }
-
-    fn lowest_balance(&self) -> i64 {
-        let lowest = self.below.lowest_balance();
-        if lowest > HIGHEST_BALANCE - CENT {
-            HIGHEST_BALANCE
-        } else {
-            lowest + CENT
+    fn terms(&self) -> Terms {
+        let below = self.below.terms();
+        Terms {
+            lowest: (below.lowest + CENT).min(HIGHEST_BALANCE),
+            ..below
         }
-    }
-
-    fn highest_balance(&self) -> i64 {
-        self.below.highest_balance()
     }
 
     // The amount and the old rest together are split: the whole cents go below, and the rest stays here.
     fn pay(&mut self, account: u32, amount: i64) -> Result<(), Fault>
-        ensures pays { Pays (layer (meaning L.BalanceReader.reading L.CashLedger.terms self.old.below) (listed self.old.rests.accounts) self.old.rests.rows) account amount result (layer (meaning L.BalanceReader.reading L.CashLedger.terms self.new.below) (listed self.new.rests.accounts) self.new.rests.rows) }
-        ensures sends { Sends (meaning L.BalanceReader.reading L.CashLedger.terms self.old.below) (listed self.old.rests.accounts) self.old.rests.rows account amount result (meaning L.BalanceReader.reading L.CashLedger.terms self.new.below) (listed self.new.rests.accounts) self.new.rests.rows }
+        ensures pays { Pays (layer (meaning L.BalanceReader.balances L.CashLedger.terms self.old.below) (listed self.old.rests.accounts) self.old.rests.rows) account amount result (layer (meaning L.BalanceReader.balances L.CashLedger.terms self.new.below) (listed self.new.rests.accounts) self.new.rests.rows) }
+        ensures sends { Sends (meaning L.BalanceReader.balances L.CashLedger.terms self.old.below) (listed self.old.rests.accounts) self.old.rests.rows account amount result (meaning L.BalanceReader.balances L.CashLedger.terms self.new.below) (listed self.new.rests.accounts) self.new.rests.rows }
     {
-        let Some(found) = self.find(account) else {
-            return Err(Fault {
-                refusal: Refusal::UnknownAccount,
-                account,
-            });
-        };
-        let lowest = self.lowest_balance();
-        let highest = self.highest_balance();
-        if !is_in_range(lowest, highest, found.balance, amount) {
-            return Err(Fault {
-                refusal: Refusal::OutOfRange,
-                account,
-            });
-        }
-        if self.capacity() == 0 {
-            return Err(Fault {
-                refusal: Refusal::NoCapacity,
-                account: 0,
-            });
-        }
-        let (cents, rest) = split(amount + found.rest as i64);
+        let found = self
+            .find(account)
+            .ok_or(Refusal::UnknownAccount.at(account))?;
+        self.terms().check(account, found.balance, amount)?;
+        let (cents, rest) = split(amount + i64::from(found.rest));
         pay_cents(&mut self.below, account, cents)?;
-        let row = self.rests.row(found.place);
-        row.value = rest;
+        self.rests.row(found.place).value = rest;
         Ok(())
     }
 }

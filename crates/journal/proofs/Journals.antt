@@ -38,7 +38,7 @@ module _ (j : Journal) (a : ℕ) (b : ℤ) (e : total_of j a ≡ Some b) where
   -- 42 and 43 decide
   pub known_fault : (x : ℤ) → SFits w64 x → fault_of (journal j) a x ≡ first_fault (term_checks (terms_of j) a (back b) (back x))
   unfolding fault_of
-  known_fault x fits = rw (e, back_within b told.2, to_z-of_z w64 x fits) refl
+  known_fault x fits = rw (e, back_within b told.2, to_z-of_z w64 x fits)
 
   pub taken : (x : ℤ) → SFits w64 x → first_fault (term_checks (terms_of j) a (back b) (back x)) ≡ None → (fault_of (journal j) a x ≡ None) × Within (b +ℤ x) × (j.lines < length j.words.now / 4)
   taken x fits h =
@@ -56,7 +56,7 @@ module _ (j k : Journal) (p : Payment) (b : ℤ) (e : total_of j p.account ≡ S
   lines_after = rw (more.words, more.lines) (lines_written j.words.now j.lines p room (small j p.account b e) fits)
 
   same_accounts : (a : ℕ) → from_to k.first k.last a ≡ from_to j.first j.last a
-  same_accounts a = rw (more.first, more.last) refl
+  same_accounts a = rw (more.first, more.last)
 
   total_here : total_of k p.account ≡ Some (b +ℤ p.amount)
   total_here =
@@ -66,15 +66,15 @@ module _ (j k : Journal) (p : Payment) (b : ℤ) (e : total_of j p.account ≡ S
       rw (s, d) (if_inside (b +ℤ p.amount) new)
 
   total_there : (a : ℕ) → (a ≡ p.account → ⊥) → total_of k a ≡ total_of j a
-  total_there a ne = rw (same_accounts a, ap (λ q. due q a) lines_after ∙ due_other (lines_of j) p a (λ q. ne (sym q))) refl
+  total_there a ne = rw (same_accounts a, ap (λ q. due q a) lines_after ∙ due_other (lines_of j) p a (λ q. ne (sym q)))
 
   pub raised : Raised (journal j) p.account p.amount (journal k)
   raised = record {
     known = λ a. elim (cases_eq a p.account) [
-      | inl q ↦ rw (q, total_here, e) refl
+      | inl q ↦ rw (q, total_here, e)
       | inr ne ↦ ap is_some (total_there a ne)
     ];
-    here = rw (total_here, e) refl;
+    here = rw (total_here, e);
     others = λ a ne. ap (λ o. unwrap_or o (pos 0)) (total_there a ne);
     capacity = inr (omega (arith, more.lines, ap length more.words ∙ length-written j.words.now j.lines p room));
     lowest = refl;

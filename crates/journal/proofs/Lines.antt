@@ -1,6 +1,7 @@
 -- Lines in words: what is written reads back, and nothing else changes.
-use Rattle.std.proofs.Common.{◌≡◌, ℕ, zero, suc, ◌+◌, ◌*◌, ◌/◌, ◌%◌, ◌<◌, ◌≤◌, List, [], ◌∷◌, ◌++◌, map, length, take, drop, ℤ, pos, negsuc, sym, refl, ap, ap₂, ◌∙◌, append_assoc, add-one, arith, length-take, length-drop, take-add, w64, SFits, to_z}
-use Rattle.std.proofs.Math.Seq.{take-append_seam, drop-append_seam}
+use Rattle.std.proofs.Common.{◌≡◌, ℕ, zero, suc, ◌+◌, ◌*◌, ◌/◌, ◌%◌, ◌<◌, ◌≤◌, List, [], ◌∷◌, ◌++◌, map, length, take, drop, ℤ, sym, refl, ap, ap₂, ◌∙◌, add-one, arith, w64, SFits, to_z}
+use Rattle.std.proofs.Math.Facts.{Fits-of_z}
+use Rattle.std.proofs.Math.Seq.{take-append_seam}
 use Rattle.std.proofs.lemmas.List.{map-append}
 use Rattle.std.proofs.lemmas.List.Edits.{length-paste, drop-paste}
 use Rattle.std.proofs.lemmas.Int.{to_z-of_z}
@@ -15,15 +16,16 @@ take_chunks n zero m xs h = refl
 take_chunks n (suc k) zero xs h = absurd (omega arith)
 take_chunks n (suc k) (suc m) xs h = ap (λ q. take n xs ∷ q) (take_chunks n k m (drop n xs) (omega arith))
 
--- four more after the first 4 * k
+-- a line after the first k
 one_more : (k : ℕ) (xs ys zs : List ℕ) → length ys ≡ 4 → 4 * k ≤ length xs → first_chunks 4 (suc k) (take (4 * k) xs ++ ys ++ zs) ≡ first_chunks 4 k xs ++ (ys ∷ [])
 one_more zero xs ys zs e h = ap (λ n. take n (ys ++ zs) ∷ []) (sym e) ∙ ap (λ q. q ∷ []) (take-append_seam ys zs)
-one_more (suc k) xs ys zs e h =
-    let rest = take (4 * k) (drop 4 xs) ++ ys ++ zs in
-    let n : 4 * suc k ≡ 4 + 4 * k = omega arith in
-    let four : length (take 4 xs) ≡ 4 = length-take 4 xs ∙ omega arith in
-    let split : take (4 * suc k) xs ++ ys ++ zs ≡ take 4 xs ++ rest = ap (λ m. take m xs ++ ys ++ zs) n ∙ ap (λ q. q ++ ys ++ zs) (take-add 4 (4 * k) xs) ∙ ap (λ q. q ++ zs) (append_assoc (take 4 xs) (take (4 * k) (drop 4 xs)) ys) ∙ append_assoc (take 4 xs) (take (4 * k) (drop 4 xs) ++ ys) zs in
-    ap (first_chunks 4 (suc (suc k))) split ∙ ap₂ (λ q r. q ∷ r) (ap (λ m. take m (take 4 xs ++ rest)) (sym four) ∙ take-append_seam (take 4 xs) rest) (ap (λ m. first_chunks 4 (suc k) (drop m (take 4 xs ++ rest))) (sym four) ∙ ap (first_chunks 4 (suc k)) (drop-append_seam (take 4 xs) rest) ∙ one_more k (drop 4 xs) ys zs e (omega (arith, length-drop 4 xs)))
+one_more (suc k) (p ∷ q ∷ r ∷ s ∷ xs) ys zs e h =
+    let n : 4 * suc k ≡ suc (suc (suc (suc (4 * k)))) = omega arith in
+    rw n (ap (λ l. (p ∷ q ∷ r ∷ s ∷ []) ∷ l) (one_more k xs ys zs e (omega arith)))
+one_more (suc k) [] ys zs e h = absurd (omega arith)
+one_more (suc k) (p ∷ []) ys zs e h = absurd (omega arith)
+one_more (suc k) (p ∷ q ∷ []) ys zs e h = absurd (omega arith)
+one_more (suc k) (p ∷ q ∷ r ∷ []) ys zs e h = absurd (omega arith)
 
 -- ---- a payment in a line
 
@@ -31,15 +33,11 @@ one_more (suc k) xs ys zs e h =
 joined : (u : ℕ) → u < 18446744073709551616 → (word 2 (u / parts / parts) % 256 * parts + part (word 3 (part (u / parts)))) * parts + part (word 4 (part u)) ≡ u
 joined u h = omega arith
 
-bits_below : (x : ℤ) → SFits w64 x → bits_of x < 18446744073709551616
-bits_below (pos n) f = omega (arith, f.sfits)
-bits_below (negsuc n) f = omega (arith, f.sfits)
-
 pub payment_back : (p : Payment) → p.account < parts → SFits w64 p.amount → payment_in (words_of p) ≡ p
 payment_back p small fits =
     let line : ℕ → ℤ → Payment = λ a x. record { account = a; amount = x } in
     let a : part (word 1 p.account) ≡ p.account = omega arith in
-    ap₂ line a (ap (to_z w64) (joined (bits_of p.amount) (bits_below p.amount fits)) ∙ to_z-of_z w64 p.amount fits)
+    ap₂ line a (ap (to_z w64) (joined (bits_of p.amount) (Fits-of_z fits).fits) ∙ to_z-of_z w64 p.amount fits)
 
 -- ---- a line more
 

@@ -26,10 +26,10 @@ amount_of bits = to_z w64 bits
 abbrev pub words_of : Payment → List ℕ
 words_of p =
     word 1 p.account
-    ∷ (word 2 (bits_of p.amount / parts / parts)
-    ∷ (word 3 (part (bits_of p.amount / parts))
-    ∷ (word 4 (part (bits_of p.amount))
-    ∷ [])))
+    ∷ word 2 (bits_of p.amount / parts / parts)
+    ∷ word 3 (part (bits_of p.amount / parts))
+    ∷ word 4 (part (bits_of p.amount))
+    ∷ []
 
 -- the payment in the four words of a line
 abbrev pub payment_in : List ℕ → Payment

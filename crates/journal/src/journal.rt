@@ -3,7 +3,8 @@ ghost use Rattle.std.specs.Prelude.{◌/◌, ◌≤◌, length};
 mod reading;
 mod writing;
 
-// Payments in lent words, one after another, to accounts from a first to a last number.
+// Payments one after another, to accounts from a first to a last number.
+// The words are the caller's, so how many lines are written in them is counted beside them.
 #[derive(Drop)]
 pub struct Journal<'a> {
     words: &'a mut [u32],

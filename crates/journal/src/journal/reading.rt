@@ -37,8 +37,8 @@ fn balance_of_total(total: i128) -> Option<i64>
 }
 
 impl<'a> Journal<'a> {
-    #[tactic(auto, unfolding(ledger::specs::Totals::if_within))]
     // A journal with no line. It knows the accounts from first to last, but none if one of the two is no account number.
+    #[tactic(auto, unfolding(ledger::specs::Totals::if_within))]
     pub fn new(words: &'a mut [u32], first: u32, last: u32) -> Journal<'a>
         ensures words { result.words.now ≡ words.old }
         ensures lines { lines_of result ≡ [] }
@@ -61,12 +61,14 @@ impl<'a> Journal<'a> {
         self.lines().get(number).map(payment_of)
     }
 
+    // The lines that are written.
     fn lines(&self) -> &[[u32; LINE]]
         ensures { result.now ≡ first_chunks 4 self.now.lines self.now.words.now }
     {
         &self.words.as_chunks().0[..self.lines]
     }
 
+    // Whether an account lies from the first to the last.
     fn spans(&self, account: u32) -> bool
         ensures { result ≡ from_to self.now.first self.now.last account }
     {

@@ -1,4 +1,4 @@
-// Writing a payment.
+// Writing payments, a line after another.
 ghost use Rattle.std.specs.Prelude.{◌≡◌, ◌+◌, ◌/◌, ◌<◌, length};
 ghost use Rattle.ledger.specs.Payments.{Pays};
 ghost use Rattle.ledger.specs.Sound.{widest_bounded};

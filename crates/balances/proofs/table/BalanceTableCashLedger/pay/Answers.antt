@@ -1,13 +1,15 @@
-use Rattle.std.proofs.Common.{◌≡◌, ◌<◌, length, Some, None, sym, ap, ◌∙◌, arith}
+use Rattle.std.proofs.Common.{◌≡◌, ◌<◌, length, Some, None, sym, ap, ◌∙◌, arith, lit≤}
 use Rattle.std.proofs.lemmas.Result.{err_from_is_err_and}
 use Rattle.faults.proofs.Rows.{verdict_failed}
+use Rattle.ledger.specs.Meaning.{widest}
 use Rattle.ledger.proofs.Money.{fits_within, reaches_amount}
 use Rattle.ledger.proofs.Refused.{same_self}
 use Rattle.balances.specs.Accounts.{listed}
 use Rattle.balances.specs.Lists.{First}
 use Rattle.balances.specs.Table.{table_balances, value_in}
 use Rattle.balances.proofs.Lookup.{lookup_at, lookup_none}
-use Rattle.balances.proofs.Tables.{table_fault, table_raised, table_unknown, taken}
+use Rattle.balances.proofs.Tables.{table_fault, table_raised, table_unknown}
+use Rattle.balances.proofs.Taken.{taken}
 use Rattle.balances.proofs.table.BalanceTableCashLedger.pay.Goals as goal
 
 pub returns-in_err-place : goal.returns-in_err-place
@@ -34,12 +36,12 @@ returns-in_err-check c =
 pub overflow_add-balance : goal.overflow_add-balance
 overflow_add-balance c =
     let row = c.at-2.result.now in
-    (taken _ _ _ _ row.value _ row.within c.ranges.amount c.terms.ensures c.in_ok-check.ensures).fits
+    (taken _ _ _ (widest 64) _ row.value _ (lit≤ tt) (lit≤ tt) row.within c.ranges.amount c.terms.ensures c.in_ok-check.ensures).fits
 
 pub invariant_of-row : goal.invariant_of-row
 invariant_of-row c =
     let row = c.at-2.result.now in
-    let t = taken _ _ _ _ row.value _ row.within c.ranges.amount c.terms.ensures c.in_ok-check.ensures in
+    let t = taken _ _ _ (widest 64) _ row.value _ (lit≤ tt) (lit≤ tt) row.within c.ranges.amount c.terms.ensures c.in_ok-check.ensures in
     record { within = rw t.sum t.within }
 
 pub returns : goal.returns
@@ -52,5 +54,5 @@ returns c =
     let k = c.in_ok-place.place.inside in
     let h : i < length rows.rows = omega arith in
     let here : table_balances (listed rows.accounts) rows.rows c.args.account ≡ Some row.value = lookup_at value_in None _ rows.rows c.args.account i row first h ∙ sym (ap value_in c.at-2.ensures.value) in
-    let t = taken _ _ _ c.args.account row.value _ row.within c.ranges.amount c.terms.ensures c.in_ok-check.ensures in
+    let t = taken _ _ _ (widest 64) c.args.account row.value _ (lit≤ tt) (lit≤ tt) row.within c.ranges.amount c.terms.ensures c.in_ok-check.ensures in
     (table_fault _ _ _ _ _ here ∙ t.passes, table_raised _ _ _ _ _ here i _ first h t.sum)
