@@ -12,7 +12,6 @@ use ledger::payment::Payment;
 use ledger::traits::{BalanceReader, CashLedger};
 use std::array;
 use std::process::Abort;
-use std::test::Fail;
 
 // 4 × 10^18, 9 × 10^18 and the rest between two of the first and the second.
 const LARGEST: i64 = 4_000_000_000_000_000_000;
@@ -68,7 +67,7 @@ fn balance_limits(rt: HostRuntime) {
 }
 
 #[test]
-fn lists(rt: HostRuntime) -> Result<(), Fail> {
+fn lists(rt: HostRuntime) {
     let mut list: [u32; 66] = array::from_fn(|place| 100 + place as u32 % 65);
     // 64 accounts, then a 65th, then the first again
     assert_eq!(rt; check_list(&list[0..64]), Ok(()));
@@ -83,7 +82,6 @@ fn lists(rt: HostRuntime) -> Result<(), Fail> {
     list[65] = 16_384;
     assert_eq!(rt; check_list(&list), Err(AccountNumber.into()));
     assert!(rt; !BalanceTable::new(&[5, 0]).is_known(5));
-    Ok(())
 }
 
 // Lines of −1 and 1, and words that no line reaches.
