@@ -1,16 +1,19 @@
 -- The payments in a journal's words, four words to a line.
-use Rattle.std.specs.Prelude.{ℕ, zero, suc, ◌+◌, ◌*◌, ◌/◌, ◌%◌, min, List, [], ◌∷◌, ◌++◌, length, ℤ, slice_index, slice_set}
+use Rattle.std.specs.Prelude.{ℕ, ◌+◌, ◌*◌, ◌/◌, ◌%◌, List, [], ◌∷◌, ◌++◌, map, take, drop, ℤ, slice_index}
 use Rattle.std.specs.Int.{w64}
+use Rattle.std.specs.Simd.{first_chunks}
 use Rattle.std.proofs.Common.{to_z, of_z}
 use Rattle.ledger.specs.declared.payment.Payment.{Payment}
 
--- the values of the 28 bits below a word's kind
-abbrev pub part : ℕ
-part = 268435456
+-- a word has its kind in the top four bits, and in the 28 below them one of so many parts
+abbrev pub parts : ℕ
+parts = 268435456
 
--- a word has its kind in the top four bits
 abbrev pub word : ℕ → ℕ → ℕ
-word kind below = kind * part + below
+word kind below = kind * parts + below
+
+abbrev pub part : ℕ → ℕ
+part w = w % parts
 
 -- the 64 bits of an amount in two's complement, and the amount of 64 bits
 abbrev pub bits_of : ℤ → ℕ
@@ -19,27 +22,26 @@ bits_of amount = of_z w64 amount
 abbrev pub amount_of : ℕ → ℤ
 amount_of bits = to_z w64 bits
 
--- the words ws with a payment in the line k: the account, then the amount's top 8, next 28 and last 28 bits
-unfoldable pub written : List ℕ → ℕ → Payment → List ℕ
-written ws k p =
-    slice_set (slice_set (slice_set (slice_set ws
-    (4 * k) (word 1 p.account))
-    (4 * k + 1) (word 2 (bits_of p.amount / part / part)))
-    (4 * k + 2) (word 3 (bits_of p.amount / part % part)))
-    (4 * k + 3) (word 4 (bits_of p.amount % part))
+-- the line of a payment: the account, then the amount's top 8, next 28 and last 28 bits
+abbrev pub words_of : Payment → List ℕ
+words_of p =
+    word 1 p.account
+    ∷ word 2 (bits_of p.amount / parts / parts)
+    ∷ word 3 (part (bits_of p.amount / parts))
+    ∷ word 4 (part (bits_of p.amount))
+    ∷ []
 
--- the payment in the line k
-unfoldable pub line_at : List ℕ → ℕ → Payment
-line_at ws k = record {
-  account = slice_index ws (4 * k) % part;
-  amount = amount_of ((slice_index ws (4 * k + 1) % 256 * part + slice_index ws (4 * k + 2) % part) * part + slice_index ws (4 * k + 3) % part);
+-- the payment in the four words of a line
+abbrev pub payment_in : List ℕ → Payment
+payment_in line = record {
+  account = part (slice_index line 0);
+  amount = amount_of ((slice_index line 1 % 256 * parts + part (slice_index line 2)) * parts + part (slice_index line 3));
 }
 
--- the first k lines
-unfoldable pub lines_in : List ℕ → ℕ → List Payment
-lines_in ws zero = []
-lines_in ws (suc k) = lines_in ws k ++ (line_at ws k ∷ [])
+-- the payments in the first n lines of the words ws
+abbrev pub lines_in : List ℕ → ℕ → List Payment
+lines_in ws n = map payment_in (first_chunks 4 n ws)
 
--- the n lines of a journal, as far as the words reach
-abbrev pub lines_of : List ℕ → ℕ → List Payment
-lines_of ws n = lines_in ws (min n (length ws / 4))
+-- the words ws with a payment in the line n
+abbrev pub written : List ℕ → ℕ → Payment → List ℕ
+written ws n p = take (4 * n) ws ++ words_of p ++ drop (4 * n + 4) ws

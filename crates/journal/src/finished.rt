@@ -1,6 +1,7 @@
 ghost use Rattle.std.specs.Prelude.{◌≡◌};
-ghost use Rattle.journal.specs.Meaning.{journal_reading};
-ghost use Rattle.journal.specs.Sound.{journal_sound};
+ghost use Rattle.journal.specs.Meaning.{total_of};
+ghost use Rattle.journal.specs.Sound.{total_within};
+ghost use Rattle.ledger.specs.Sound.{sound_totals};
 
 use crate::journal::Journal;
 use ledger::traits::BalanceReader;
@@ -20,15 +21,11 @@ impl<'a> FinishedJournal<'a> {
 }
 
 impl<'a> BalanceReader for FinishedJournal<'a> {
-    ghost reading = { λ s. journal_reading s.journal.words.now s.journal.lines s.journal.first s.journal.last };
+    ghost balances = { λ s. total_of s.journal };
 
-    ghost sound = { journal_sound (λ s. s.journal.words.now) (λ s. s.journal.lines) (λ s. s.journal.first) (λ s. s.journal.last) };
+    ghost sound = { sound_totals (λ s. total_of s.journal) (λ s. total_within s.journal) };
 
-    fn is_known(&self, account: u32) -> bool {
-        self.journal.is_known(account)
-    }
-
-    fn balance_of(&self, account: u32) -> i64 {
-        self.journal.balance_of(account)
+    fn balance(&self, account: u32) -> Option<i64> {
+        self.journal.balance(account)
     }
 }

@@ -3,3 +3,4 @@
 
 pub mod finished;
 pub mod journal;
+mod line;

@@ -1,8 +1,8 @@
-ghost use Rattle.ledger_tests.specs.Purse.{purse_reading, purse_sound};
+ghost use Rattle.ledger_tests.specs.Purse.{balances_of, purse_sound, terms_of};
 
 use balances::balance::Balance;
 use faults::{Fault, Refusal};
-use ledger::limits::is_in_range;
+use ledger::terms::Terms;
 use ledger::traits::{BalanceReader, CashLedger};
 
 // A ledger of one account with a range of its own. Each payment, one of zero too, lowers its capacity by one.
@@ -16,62 +16,33 @@ pub struct Purse {
 }
 
 impl BalanceReader for Purse {
-    ghost reading = { λ s. purse_reading s.account s.balance.value };
+    ghost balances = { balances_of };
 
-    ghost sound = { purse_sound (λ s. s.account) (λ s. s.balance.value) (λ s. s.balance.within) };
+    ghost sound = { purse_sound };
 
-    fn is_known(&self, account: u32) -> bool {
-        account == self.account
-    }
-
-    fn balance_of(&self, account: u32) -> i64 {
-        if account == self.account {
-            self.balance.value
-        } else {
-            0
-        }
+    fn balance(&self, account: u32) -> Option<i64> {
+        (account == self.account).then_some(self.balance.value)
     }
 }
 
 impl CashLedger for Purse {
-    ghost terms = { λ s. record { capacity = s.left; lowest = s.lowest.value; highest = s.highest.value } };
+    ghost terms = { terms_of };
 
-    ghost bounded = { record { lowest = λ s. s.lowest.within; highest = λ s. s.highest.within } };
+    ghost bounded = { record { lowest = λ p. p.lowest.within; highest = λ p. p.highest.within } };
 
-    fn capacity(&self) -> u64 {
-        self.left
-    }
-
-    fn lowest_balance(&self) -> i64 {
-        self.lowest.value
-    }
-
-    fn highest_balance(&self) -> i64 {
-        self.highest.value
+    fn terms(&self) -> Terms {
+        Terms {
+            capacity: self.left,
+            lowest: self.lowest.value,
+            highest: self.highest.value,
+        }
     }
 
     fn pay(&mut self, account: u32, amount: i64) -> Result<(), Fault> {
-        if !self.is_known(account) {
-            return Err(Fault {
-                refusal: Refusal::UnknownAccount,
-                account,
-            });
-        }
-        let lowest = self.lowest.value;
-        let highest = self.highest.value;
-        let balance = self.balance.value;
-        if !is_in_range(lowest, highest, balance, amount) {
-            return Err(Fault {
-                refusal: Refusal::OutOfRange,
-                account,
-            });
-        }
-        if self.left == 0 {
-            return Err(Fault {
-                refusal: Refusal::NoCapacity,
-                account: 0,
-            });
-        }
+        let balance = self
+            .balance(account)
+            .ok_or(Refusal::UnknownAccount.at(account))?;
+        self.terms().check(account, balance, amount)?;
         self.balance = Balance {
             value: balance + amount,
         };

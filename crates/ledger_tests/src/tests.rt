@@ -3,13 +3,14 @@ use balances::accounts::listing::check_list;
 use balances::balance::Balance;
 use balances::table::BalanceTable;
 use cents::layer::Cents;
-use faults::{Fault, Refusal};
+use faults::Refusal::{AccountNumber, NoAccountPlace, NoCapacity, OutOfRange, UnknownAccount};
 use journal::finished::FinishedJournal;
 use journal::journal::Journal;
 use ledger::limits::is_admitted;
 use ledger::paying::pay_all;
 use ledger::payment::Payment;
 use ledger::traits::{BalanceReader, CashLedger};
+use std::array;
 use std::process::Abort;
 use std::test::Fail;
 
@@ -20,41 +21,6 @@ const LIMIT: i64 = 9_000_000_000_000_000_000;
 
 const REST: i64 = 1_000_000_000_000_000_000;
 
-fn unknown(account: u32) -> Result<(), Fault> {
-    Err(Fault {
-        refusal: Refusal::UnknownAccount,
-        account,
-    })
-}
-
-fn out_of_range(account: u32) -> Result<(), Fault> {
-    Err(Fault {
-        refusal: Refusal::OutOfRange,
-        account,
-    })
-}
-
-fn no_capacity() -> Result<(), Fault> {
-    Err(Fault {
-        refusal: Refusal::NoCapacity,
-        account: 0,
-    })
-}
-
-fn no_place(account: u32) -> Result<(), Fault> {
-    Err(Fault {
-        refusal: Refusal::NoAccountPlace,
-        account,
-    })
-}
-
-fn no_number() -> Result<(), Fault> {
-    Err(Fault {
-        refusal: Refusal::AccountNumber,
-        account: 0,
-    })
-}
-
 fn payment(account: u32, amount: i64) -> Payment {
     Payment { account, amount }
 }
@@ -64,18 +30,18 @@ fn admitted_accounts(rt: HostRuntime) {
     assert!(rt; !is_admitted(0) & is_admitted(1) & is_admitted(16_383) & !is_admitted(16_384));
     let mut table = BalanceTable::new(&[1, 16_383]);
     assert!(rt; table.is_known(1) & table.is_known(16_383) & !table.is_known(2));
-    assert_eq!(rt; table.pay(0, 1), unknown(0));
-    assert_eq!(rt; table.pay(16_384, 1), unknown(16_384));
+    assert_eq!(rt; table.pay(0, 1), Err(UnknownAccount.at(0)));
+    assert_eq!(rt; table.pay(16_384, 1), Err(UnknownAccount.at(16_384)));
     assert_eq!(rt; table.balance_of(16_384), 0);
 }
 
 #[test]
 fn payment_sizes(rt: HostRuntime) {
     let mut table = BalanceTable::new(&[7]);
-    assert_eq!(rt; table.pay(7, LARGEST + 1), out_of_range(7));
-    assert_eq!(rt; table.pay(7, -LARGEST - 1), out_of_range(7));
-    assert_eq!(rt; table.pay(7, i64::MAX), out_of_range(7));
-    assert_eq!(rt; table.pay(7, i64::MIN), out_of_range(7));
+    assert_eq!(rt; table.pay(7, LARGEST + 1), Err(OutOfRange.at(7)));
+    assert_eq!(rt; table.pay(7, -LARGEST - 1), Err(OutOfRange.at(7)));
+    assert_eq!(rt; table.pay(7, i64::MAX), Err(OutOfRange.at(7)));
+    assert_eq!(rt; table.pay(7, i64::MIN), Err(OutOfRange.at(7)));
     assert_eq!(rt; table.balance_of(7), 0);
     assert_eq!(rt; table.pay(7, LARGEST), Ok(()));
     assert_eq!(rt; table.pay(7, -LARGEST), Ok(()));
@@ -89,27 +55,24 @@ fn balance_limits(rt: HostRuntime) {
     let mut table = BalanceTable::new(&[3, 4]);
     assert_eq!(rt; table.pay(3, LARGEST), Ok(()));
     assert_eq!(rt; table.pay(3, LARGEST), Ok(()));
-    assert_eq!(rt; table.pay(3, REST + 1), out_of_range(3));
+    assert_eq!(rt; table.pay(3, REST + 1), Err(OutOfRange.at(3)));
     assert_eq!(rt; table.pay(3, REST), Ok(()));
     assert_eq!(rt; table.balance_of(3), LIMIT);
-    assert_eq!(rt; table.pay(3, 1), out_of_range(3));
+    assert_eq!(rt; table.pay(3, 1), Err(OutOfRange.at(3)));
     assert_eq!(rt; table.pay(4, -LARGEST), Ok(()));
     assert_eq!(rt; table.pay(4, -LARGEST), Ok(()));
-    assert_eq!(rt; table.pay(4, -REST - 1), out_of_range(4));
+    assert_eq!(rt; table.pay(4, -REST - 1), Err(OutOfRange.at(4)));
     assert_eq!(rt; table.pay(4, -REST), Ok(()));
     assert_eq!(rt; table.balance_of(4), -LIMIT);
-    assert_eq!(rt; table.pay(4, -1), out_of_range(4));
+    assert_eq!(rt; table.pay(4, -1), Err(OutOfRange.at(4)));
 }
 
 #[test]
 fn lists(rt: HostRuntime) -> Result<(), Fail> {
-    let mut list = [0u32; 66];
-    for i in 0..66 {
-        list[i] = 100 + (i as u32) % 65;
-    }
+    let mut list: [u32; 66] = array::from_fn(|place| 100 + place as u32 % 65);
     // 64 accounts, then a 65th, then the first again
     assert_eq!(rt; check_list(&list[0..64]), Ok(()));
-    assert_eq!(rt; check_list(&list[0..65]), no_place(164));
+    assert_eq!(rt; check_list(&list[0..65]), Err(NoAccountPlace.at(164)));
     assert!(rt; BalanceTable::new(&list[0..64]).is_known(163));
     assert!(rt; !BalanceTable::new(&list[0..65]).is_known(100));
     // a repeat counts once
@@ -118,7 +81,7 @@ fn lists(rt: HostRuntime) -> Result<(), Fail> {
     // a bad number refuses before a missing place does
     list[64] = 164;
     list[65] = 16_384;
-    assert_eq!(rt; check_list(&list), no_number());
+    assert_eq!(rt; check_list(&list), Err(AccountNumber.into()));
     assert!(rt; !BalanceTable::new(&[5, 0]).is_known(5));
     Ok(())
 }
@@ -133,14 +96,14 @@ fn journal_words(rt: HostRuntime) {
             !journal.is_known(1) & journal.is_known(2) & journal.is_known(5) & !journal.is_known(6)
         );
         assert_eq!(rt; journal.capacity(), 2);
-        assert_eq!(rt; journal.pay(6, 1), unknown(6));
-        assert_eq!(rt; journal.pay(5, i64::MAX), out_of_range(5));
-        assert_eq!(rt; journal.pay(5, i64::MIN), out_of_range(5));
+        assert_eq!(rt; journal.pay(6, 1), Err(UnknownAccount.at(6)));
+        assert_eq!(rt; journal.pay(5, i64::MAX), Err(OutOfRange.at(5)));
+        assert_eq!(rt; journal.pay(5, i64::MIN), Err(OutOfRange.at(5)));
         assert_eq!(rt; journal.pay(5, 0), Ok(()));
         assert_eq!(rt; journal.capacity(), 2);
         assert_eq!(rt; journal.pay(5, -1), Ok(()));
         assert_eq!(rt; journal.pay(2, 1), Ok(()));
-        assert_eq!(rt; journal.pay(2, 1), no_capacity());
+        assert_eq!(rt; journal.pay(2, 1), Err(NoCapacity.into()));
         assert_eq!(rt; journal.line(0), Some(payment(5, -1)));
         assert_eq!(rt; journal.line(1), Some(payment(2, 1)));
         assert_eq!(rt; journal.line(2), None);
@@ -149,23 +112,30 @@ fn journal_words(rt: HostRuntime) {
         assert_eq!(rt; finished.balance_of(5), -1);
         assert_eq!(rt; finished.balance_of(2), 1);
     }
-    assert_eq!(rt; words[0], 0x1000_0005);
-    assert_eq!(rt; words[1], 0x2000_00ff);
-    assert_eq!(rt; words[2], 0x3fff_ffff);
-    assert_eq!(rt; words[3], 0x4fff_ffff);
-    assert_eq!(rt; words[4], 0x1000_0002);
-    assert_eq!(rt; words[5], 0x2000_0000);
-    assert_eq!(rt; words[6], 0x3000_0000);
-    assert_eq!(rt; words[7], 0x4000_0001);
-    assert_eq!(rt; words[8], 9);
-    assert_eq!(rt; words[10], 9);
+    let lines = [
+        0x1000_0005,
+        0x2000_00ff,
+        0x3fff_ffff,
+        0x4fff_ffff,
+        0x1000_0002,
+        0x2000_0000,
+        0x3000_0000,
+        0x4000_0001,
+        9,
+        9,
+        9,
+    ];
+    assert_eq!(rt; words, lines);
 }
 
 // Journals over 0, 3, 4 and 7 words.
 #[test]
 fn journal_sizes(rt: HostRuntime) {
     assert_eq!(rt; Journal::new(&mut [], 1, 9).capacity(), 0);
-    assert_eq!(rt; Journal::new(&mut [0; 3], 1, 9).pay(1, 1), no_capacity());
+    assert_eq!(rt;
+        Journal::new(&mut [0; 3], 1, 9).pay(1, 1),
+        Err(NoCapacity.into())
+    );
     assert_eq!(rt; Journal::new(&mut [0; 4], 1, 9).capacity(), 1);
     assert_eq!(rt; Journal::new(&mut [0; 7], 1, 9).capacity(), 1);
 }
@@ -195,8 +165,8 @@ fn layer_over_table(rt: HostRuntime) {
     assert_eq!(rt; layer.below().balance_of(2), 0);
     assert_eq!(rt; layer.pay(2, -LARGEST), Ok(()));
     assert_eq!(rt; layer.balance_of(2), 99 - LARGEST);
-    assert_eq!(rt; layer.pay(3, 1), unknown(3));
-    assert_eq!(rt; layer.pay(2, LARGEST + 1), out_of_range(2));
+    assert_eq!(rt; layer.pay(3, 1), Err(UnknownAccount.at(3)));
+    assert_eq!(rt; layer.pay(2, LARGEST + 1), Err(OutOfRange.at(2)));
 }
 
 // Payments through two layers to a ledger that takes two payments to the accounts 1 to 9.
@@ -207,7 +177,7 @@ fn through_two_layers<L: CashLedger + Drop>(rt: &impl Abort, ledger: L) {
     assert_eq!(rt; layer.lowest_balance(), 200 - LIMIT);
     assert_eq!(rt; layer.pay(2, -1), Ok(()));
     assert_eq!(rt; layer.pay(3, 250), Ok(()));
-    assert_eq!(rt; layer.pay(3, 1), no_capacity());
+    assert_eq!(rt; layer.pay(3, 1), Err(NoCapacity.into()));
     assert_eq!(rt; layer.balance_of(2), -1);
     assert_eq!(rt; layer.balance_of(3), 250);
     assert!(rt; !layer.is_known(1) & !layer.is_known(4));
@@ -264,18 +234,18 @@ fn payments_together(rt: HostRuntime) {
     let mut ledger = purse(Balance { value: 0 }, 2);
     assert_eq!(rt;
         pay_all(&mut ledger, &[payment(8, 50), payment(8, 1), payment(9, 1)]),
-        unknown(9)
+        Err(UnknownAccount.at(9))
     );
     assert_eq!(rt;
         pay_all(&mut ledger, &[payment(8, 50), payment(8, 1), payment(8, 0)]),
-        out_of_range(8)
+        Err(OutOfRange.at(8))
     );
     assert_eq!(rt;
         pay_all(
             &mut ledger,
             &[payment(8, 50), payment(8, -1), payment(8, -1)],
         ),
-        no_capacity()
+        Err(NoCapacity.into())
     );
     assert_eq!(rt; ledger.balance_of(8), 8_999_999_999_999_999_950);
     assert_eq!(rt;
@@ -287,8 +257,8 @@ fn payments_together(rt: HostRuntime) {
     );
     assert_eq!(rt; ledger.balance_of(8), 8_999_999_999_999_999_999);
     assert_eq!(rt; ledger.capacity(), 0);
-    assert_eq!(rt; ledger.pay(9, 1), unknown(9));
-    assert_eq!(rt; ledger.pay(8, 2), out_of_range(8));
-    assert_eq!(rt; ledger.pay(8, 1), no_capacity());
-    assert_eq!(rt; ledger.pay(8, 0), no_capacity());
+    assert_eq!(rt; ledger.pay(9, 1), Err(UnknownAccount.at(9)));
+    assert_eq!(rt; ledger.pay(8, 2), Err(OutOfRange.at(8)));
+    assert_eq!(rt; ledger.pay(8, 1), Err(NoCapacity.into()));
+    assert_eq!(rt; ledger.pay(8, 0), Err(NoCapacity.into()));
 }

@@ -1,48 +1,48 @@
-use Rattle.std.proofs.Common.{◌<◌, sym, ◌∙◌, arith}
-use Rattle.ledger.proofs.Money.{fits_within, reached_within, reaches_back, sum_back}
-use Rattle.ledger.proofs.Refused.{same_self, unknown_refused, range_refused, capacity_refused, not_refused}
-use Rattle.ledger_tests.proofs.Purses.{purse_raised}
+use Rattle.std.proofs.Common.{◌≡◌, Some, is_some, sym, ap, ◌∙◌}
+use Rattle.std.proofs.lemmas.Result.{err_from_is_err_and}
+use Rattle.faults.specs.declared.Refusal.TheVariants.{UnknownAccount}
+use Rattle.faults.specs.Refusals.{named}
+use Rattle.faults.proofs.Rows.{verdict_failed}
+use Rattle.ledger.proofs.Money.{fits_within, reaches_amount}
+use Rattle.ledger.proofs.Refused.{same_self, unknown_refused}
+use Rattle.balances.proofs.Taken.{fault_known, taken}
+use Rattle.ledger_tests.specs.Purse.{balances_of, terms_of}
+use Rattle.ledger_tests.proofs.Purses.{purse, purse_raised, told_within}
 use Rattle.ledger_tests.proofs.purse.PurseCashLedger.pay.Goals as goal
 
-pub returns-then-not-is_known : goal.returns-then-not-is_known
-returns-then-not-is_known c = (unknown_refused _ _ _ (sym c.if-not-is_known.ensures), same_self _)
+pub returns-in_err-balance : goal.returns-in_err-balance
+returns-in_err-balance c =
+    let p = err_from_is_err_and c.from_residual.result c.from_residual.ensures.1 in
+    let o = c.in_err-balance.ensures in
+    let v = rw (o.ok_part, c.at.ensures) at o.value in
+    let fault : named UnknownAccount c.args.account ≡ c.in_err-balance.field-0.0 = cc in
+    rw (p.1, p.2, sym fault) (unknown_refused _ _ _ (ap is_some (sym c.balance.ensures ∙ o.ok_part)), same_self _)
 
-pub returns-then-not-is_in_range : goal.returns-then-not-is_in_range
-returns-then-not-is_in_range c =
+pub returns-in_err-check : goal.returns-in_err-check
+returns-in_err-check c =
     let s = c.args.self.now in
-    let is = sym c.if-not-is_known.ensures in
-    let e = c.if-not-is_in_range.ensures ∙ reaches_back _ _ _ _ (fits_within s.lowest.value s.lowest.within) (fits_within s.highest.value s.highest.within) (fits_within s.balance.value s.balance.within) c.ranges.amount in
-    (range_refused _ _ _ is (rw is (sym e)), same_self _)
-
-pub returns-then-self-eq0 : goal.returns-then-self-eq0
-returns-then-self-eq0 c =
-    let s = c.args.self.now in
-    let is = sym c.if-not-is_known.ensures in
-    let e = c.if-not-is_in_range.ensures ∙ reaches_back _ _ _ _ (fits_within s.lowest.value s.lowest.within) (fits_within s.highest.value s.highest.within) (fits_within s.balance.value s.balance.within) c.ranges.amount in
-    (capacity_refused _ _ _ is (rw is (sym e)) c.if-self-eq0.true, same_self _)
+    let p = err_from_is_err_and c.from_residual-in_err-check.result c.from_residual-in_err-check.ensures.1 in
+    let e : balances_of s c.args.account ≡ Some c.in_ok-balance.balance = sym c.balance.ensures ∙ c.in_ok-balance.ensures.ok_part in
+    let w = told_within s _ _ e in
+    let k = rw (c.terms.ensures, reaches_amount _ _ c.in_ok-balance.balance c.args.amount (fits_within _ w) c.ranges.amount) at c.in_err-check.ensures in
+    rw (p.1, p.2) (fault_known (purse s) _ _ _ (rw e) (rw e) ∙ verdict_failed tt _ _ (sym k), same_self _)
 
 pub overflow_add-self : goal.overflow_add-self
 overflow_add-self c =
     let s = c.args.self.now in
-    let f = fits_within s.balance.value s.balance.within in
-    let e = c.if-not-is_in_range.ensures ∙ reaches_back _ _ _ _ (fits_within s.lowest.value s.lowest.within) (fits_within s.highest.value s.highest.within) f c.ranges.amount in
-    (sum_back s.balance.value c.args.amount f c.ranges.amount (reached_within s.lowest.value s.highest.value s.balance.value c.args.amount s.lowest.within s.highest.within (sym e))).0
+    let e : balances_of s c.args.account ≡ Some c.in_ok-balance.balance = sym c.balance.ensures ∙ c.in_ok-balance.ensures.ok_part in
+    (taken _ _ _ (terms_of s) c.args.account c.in_ok-balance.balance c.args.amount s.lowest.within s.highest.within (told_within s _ _ e) c.ranges.amount c.terms.ensures c.in_ok-check.ensures).fits
 
 pub invariant_of-self : goal.invariant_of-self
 invariant_of-self c =
     let s = c.args.self.now in
-    let f = fits_within s.balance.value s.balance.within in
-    let e = c.if-not-is_in_range.ensures ∙ reaches_back _ _ _ _ (fits_within s.lowest.value s.lowest.within) (fits_within s.highest.value s.highest.within) f c.ranges.amount in
-    let w = reached_within s.lowest.value s.highest.value s.balance.value c.args.amount s.lowest.within s.highest.within (sym e) in
-    record { within = rw (sum_back s.balance.value c.args.amount f c.ranges.amount w).1 w }
+    let e : balances_of s c.args.account ≡ Some c.in_ok-balance.balance = sym c.balance.ensures ∙ c.in_ok-balance.ensures.ok_part in
+    let t = taken _ _ _ (terms_of s) c.args.account c.in_ok-balance.balance c.args.amount s.lowest.within s.highest.within (told_within s _ _ e) c.ranges.amount c.terms.ensures c.in_ok-check.ensures in
+    record { within = rw t.sum t.within }
 
 pub returns : goal.returns
 returns c =
     let s = c.args.self.now in
-    let f = fits_within s.balance.value s.balance.within in
-    let is = sym c.if-not-is_known.ensures in
-    let e = c.if-not-is_in_range.ensures ∙ reaches_back _ _ _ _ (fits_within s.lowest.value s.lowest.within) (fits_within s.highest.value s.highest.within) f c.ranges.amount in
-    let sum = (sum_back s.balance.value c.args.amount f c.ranges.amount (reached_within s.lowest.value s.highest.value s.balance.value c.args.amount s.lowest.within s.highest.within (sym e))).1 in
-    let none = c.if-self-eq0.false in
-    let some : 0 < s.left = omega arith in
-    (not_refused _ _ _ is (rw is (sym e)) some, purse_raised s.account s.balance.value _ s.left s.lowest.value s.highest.value c.args.account c.args.amount is sum some)
+    let e : balances_of s c.args.account ≡ Some c.in_ok-balance.balance = sym c.balance.ensures ∙ c.in_ok-balance.ensures.ok_part in
+    let t = taken _ _ _ (terms_of s) c.args.account c.in_ok-balance.balance c.args.amount s.lowest.within s.highest.within (told_within s _ _ e) c.ranges.amount c.terms.ensures c.in_ok-check.ensures in
+    (fault_known (purse s) _ _ _ (rw e) (rw e) ∙ t.passes, purse_raised s _ _ e _ _ t.sum t.room)
