@@ -11,10 +11,7 @@ use faults::{Fault, Refusal};
 use ledger::limits::HIGHEST_BALANCE;
 use ledger::terms::Terms;
 use ledger::traits::{BalanceReader, CashLedger};
-use prices::cents::split;
-
-// Ten-thousandths of a dollar in a cent.
-const CENT: i64 = 100;
+use prices::cents::{CENT, split};
 
 // A ledger below, which is paid whole cents, and the rests of the layer's accounts.
 #[derive(Drop)]
