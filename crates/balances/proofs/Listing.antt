@@ -1,41 +1,18 @@
 -- Lists of accounts.
-use Rattle.std.proofs.Common.{◌≡◌, ℕ, ◌+◌, ◌<◌, ◌≤◌, Bool, true, false, ◌||◌, eqb, ltb, List, [], ◌∷◌, ◌++◌, length, get_or, take, drop, is_some, Some, None, Ok, Err, fold, Option, Result, sym, refl, ap, ◌∙◌, inl, inr, arith}
+use Rattle.std.proofs.Common.{◌≡◌, ℕ, ◌+◌, ◌<◌, ◌≤◌, Bool, true, false, ◌||◌, eqb, List, [], ◌∷◌, ◌++◌, length, get_or, take, drop, Some, None, Ok, Err, fold, Result, sym, refl, ap, ◌∙◌, inl, inr, arith}
 use Rattle.std.specs.Result.{result_unwrap_or}
-use Rattle.std.specs.List.{list_all, position, position_or_len}
+use Rattle.std.specs.List.{list_all}
 use Rattle.std.proofs.lemmas.List.{append-nil, append_assoc, length-append, take-append-drop, get_or_at}
-use Rattle.std.proofs.lemmas.List.Folds.{list_any-append, list_any_at, list_any_none}
-use Rattle.std.proofs.lemmas.List.Sums.{fails_before_first, fold-append, fold_more}
-use Rattle.std.proofs.lemmas.Bool.{eq-eqb, le-leb, lt-leb, cases_Bool, eqb-true}
-use Rattle.std.proofs.lemmas.Bool.Decides.{nat_tests}
+use Rattle.std.proofs.lemmas.List.Folds.{list_any-append}
+use Rattle.std.proofs.lemmas.List.Sums.{fold-append, fold_more}
+use Rattle.std.proofs.lemmas.Bool.{le-leb, lt-leb, cases_Bool, eqb-true}
 use Rattle.faults.specs.declared.Fault.{Fault}
 use Rattle.faults.specs.declared.Refusal.TheVariants.{AccountNumber, NoAccountPlace}
 use Rattle.faults.specs.Refusals.{named, plain}
 use Rattle.ledger.specs.Limits.{admitted}
-use Rattle.balances.specs.declared.place.Place.{Place}
 use Rattle.balances.specs.declared.accounts.Accounts.{Accounts}
-use Rattle.balances.specs.Accounts.{Finds, Lists, listed}
-use Rattle.balances.specs.Lists.{First, add_new, different, has, list_fault, on_list}
-
--- ---- what a list has
-
-pub has_first : (xs : List ℕ) (a i : ℕ) → First xs a i → has xs a ≡ true
-has_first xs a i p = list_any_at (λ x. eqb x a) xs i 0 p.below (eq-eqb _ a p.here)
-
--- an account that stands at no place
-pub no_place : (xs : List ℕ) (a : ℕ) → position (λ x. eqb x a) xs ≡ None → has xs a ≡ false
-no_place xs a e =
-    let n : length xs ≤ position_or_len (λ x. eqb x a) xs = past in
-    list_any_none (λ x. eqb x a) xs (λ k d h. fails_before_first (λ x. eqb x a) xs k d (omega arith))
-  where
-    past : length xs ≤ position_or_len (λ x. eqb x a) xs
-    past = elim (cases_Bool (ltb (position_or_len (λ x. eqb x a) xs) (length xs))) [
-      | inl t ↦ (let s : Some (position_or_len (λ x. eqb x a) xs) ≡ None = rw t at e in absurd cc)
-      | inr t ↦ grind (arith, nat_tests)
-    ]
-
-pub found_test : (xs : List ℕ) (a : ℕ) (o : Option Place) → Finds xs a o → is_some o ≡ has xs a
-found_test xs a (Some p) f = sym (has_first xs a p.index f)
-found_test xs a None f = sym f
+use Rattle.balances.specs.Accounts.{Lists, listed}
+use Rattle.balances.specs.Lists.{add_new, different, has, list_fault, on_list}
 
 -- ---- the different accounts
 
