@@ -25,7 +25,7 @@ impl BalanceTable {
         ensures { NewTable list.now (table_balances result.rows.rows.items) }
     {
         BalanceTable {
-            rows: Rows::new(list, Balance::default()),
+            rows: Rows::new(list, Balance { value: 0 }),
         }
     }
 }

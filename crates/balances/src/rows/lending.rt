@@ -12,11 +12,11 @@ impl<R> Rows<R> {
     // A table of the accounts of a list, which keeps the same of each. A refused list makes a table of no account.
     pub fn new(list: &[u32], value: R) -> Rows<R>
     where
-        R: Copy + Default,
+        R: Copy,
         ensures { (a : ℕ) → kept result.rows.items a ≡ cond (on_list list.now a) (Some value) None }
     {
         let accounts = Accounts::of(list).unwrap_or(Accounts::new());
-        let mut rows = ArrayVec::new();
+        let mut rows = ArrayVec::new_in(value);
         for account in accounts.numbers() {
             rows.push(Row {
                 account: *account,
