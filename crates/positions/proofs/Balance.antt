@@ -1,5 +1,5 @@
 -- Trades and busts give back what they took, and leave the sums over the accounts.
-use Rattle.std.proofs.Common.{◌≡◌, ℕ, Bool, true, false, eqb, List, ℤ, pos, ◌+ℤ◌, neg_ℤ, Some, None, Option, sym, refl, ap, ◌∙◌, subst, arith}
+use Rattle.std.proofs.Common.{◌≡◌, ℕ, Bool, true, false, eqb, List, ℤ, pos, ◌+ℤ◌, neg_ℤ, Some, None, Option, sym, refl, ap, ◌∙◌, arith}
 use Rattle.std.proofs.lemmas.Int.{ints}
 use lib.IntN.{neg_ℤ-neg_ℤ}
 use Rattle.std.proofs.lemmas.Bool.Decides.{nat_tests}
@@ -11,7 +11,7 @@ use Rattle.positions.specs.declared.records.Account.{Account}
 use Rattle.positions.specs.declared.records.Trade.{Trade}
 use Rattle.positions.specs.Positions.{no_position, position, account_of, more, changed, cost_of, traded, busted}
 use Rattle.positions.specs.Laws.{SameTotals, PositionsBalance}
-use Rattle.positions.proofs.Positions.{both, changed_same, changed_other, there_and_back, back_and_there}
+use Rattle.positions.proofs.Positions.{changed_same, changed_other, there_and_back, back_and_there}
 
 -- ---- the record of one account
 
@@ -32,16 +32,11 @@ given_back : (t : Trade) (xs : List (Keyed Account)) (a : ℕ) → account_of a 
 given_back t xs a =
     let q = pos t.units in
     let v = cost_of t in
-    let buys = eqb a t.buyer in
-    let sells = eqb a t.seller in
     let one = changed t.buyer q v xs in
     let two = traded t xs in
     let three = changed t.buyer (neg_ℤ q) (neg_ℤ v) two in
-    changed_if a t.seller q v three
-    ∙ ap (more_if sells q v) (changed_if a t.buyer (neg_ℤ q) (neg_ℤ v) two
-    ∙ ap (more_if buys (neg_ℤ q) (neg_ℤ v)) (changed_if a t.seller (neg_ℤ q) (neg_ℤ v) one
-    ∙ ap (more_if sells (neg_ℤ q) (neg_ℤ v)) (changed_if a t.buyer q v xs)))
-    ∙ more_back buys sells q v (account_of a xs)
+    rw (changed_if a t.seller q v three, changed_if a t.buyer (neg_ℤ q) (neg_ℤ v) two, changed_if a t.seller (neg_ℤ q) (neg_ℤ v) one, changed_if a t.buyer q v xs)
+    (more_back (eqb a t.buyer) (eqb a t.seller) q v (account_of a xs))
 
 -- ---- the sum of a figure of the records, which a change of q units at the cost v raises by `rise q v`
 
@@ -72,11 +67,7 @@ moved_totals b s q v xs = record {
 }
 
 bust_totals : (t : Trade) (xs : List (Keyed Account)) → SameTotals xs (busted t xs)
-bust_totals t xs =
-    let q = pos t.units in
-    let v = cost_of t in
-    let ys = changed t.buyer (neg_ℤ q) (neg_ℤ v) xs in
-    subst (SameTotals xs) (both (λ q v. changed t.seller q v ys) (neg_ℤ-neg_ℤ q) (neg_ℤ-neg_ℤ v)) (moved_totals t.buyer t.seller (neg_ℤ q) (neg_ℤ v) xs)
+bust_totals t xs = rw (neg_ℤ-neg_ℤ (pos t.units), neg_ℤ-neg_ℤ (cost_of t)) at (moved_totals t.buyer t.seller (neg_ℤ (pos t.units)) (neg_ℤ (cost_of t)) xs)
 
 pub positions_balance : PositionsBalance
 positions_balance = record {

@@ -9,9 +9,6 @@ use Rattle.positions.specs.Limits.{most_units, most_cost, inside}
 use Rattle.positions.specs.Positions.{position, account_of, more, changed}
 use Rattle.positions.specs.Trading.{units_hold, cost_holds}
 
-pub both : {A : Type 0} (f : ℤ → ℤ → A) {q q' v v' : ℤ} → q ≡ q' → v ≡ v' → f q v ≡ f q' v'
-both f {q' = q'} {v = v} e g = ap (λ z. f z v) e ∙ ap (f q') g
-
 module _ (a b : ℕ) (q v : ℤ) (xs : List (Keyed Account)) where
   pub changed_same : a ≡ b → account_of a (changed b q v xs) ≡ more q v (account_of a xs)
   changed_same e =
@@ -35,12 +32,8 @@ swapped a b c = and_comm (a && b) c ∙ ap (λ t. c && t) (and_comm a b) ∙ sym
 module _ (q v : ℤ) (x : Account) where
   pub units_back : units_hold q x ≡ units_hold (neg_ℤ q) (more q v x)
   unfolding units_hold
-  units_back =
-      swapped (inside most_units x.units) (inside most_units x.units_at_close) (inside most_units (x.units +ℤ q))
-      ∙ ap (λ z. inside most_units (x.units +ℤ q) && inside most_units x.units_at_close && inside most_units z) (sym (there_and_back x.units q))
+  units_back = rw (there_and_back x.units q) (swapped (inside most_units x.units) (inside most_units x.units_at_close) (inside most_units (x.units +ℤ q)))
 
   pub cost_back : cost_holds v x ≡ cost_holds (neg_ℤ v) (more q v x)
   unfolding cost_holds
-  cost_back =
-      and_comm (inside most_cost x.cost) (inside most_cost (x.cost +ℤ v))
-      ∙ ap (λ z. inside most_cost (x.cost +ℤ v) && inside most_cost z) (sym (there_and_back x.cost v))
+  cost_back = rw (there_and_back x.cost v) (and_comm (inside most_cost x.cost) (inside most_cost (x.cost +ℤ v)))

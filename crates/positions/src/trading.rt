@@ -9,14 +9,15 @@ ghost use Rattle.positions.specs.Positions.{changed};
 ghost use Rattle.positions.specs.Trading.{Busts, Enters, bust_checks, bust_checks_of, entry_checks};
 
 use crate::change::Change;
-use crate::limits::LAST_TICKET;
-use crate::places::{buyer_has_place, seller_has_place, trade_has_place};
+use crate::limits::{ACCOUNT_PLACES, LAST_TICKET, TRADE_PLACES};
+use crate::places::seller_has_place;
 use crate::records::{Account, Trade};
 use crate::side::Side;
 use faults::{Fault, Refusal, require};
 use table::{Keyed, Table};
 
 // What speaks against a trade, in rising number: the first of it.
+#[tactic(auto, unfolding(crate::specs::Trading::has_account_place, crate::specs::Trading::has_trade_place))]
 fn check_entry(
     accounts: &Table<'_, Account>,
     trades: &Table<'_, Trade>,
@@ -31,14 +32,17 @@ fn check_entry(
     require(buyer.units_hold(), Refusal::AccountUnits.at(trade.buyer))?;
     require(seller.units_hold(), Refusal::AccountUnits.at(trade.seller))?;
     require(
-        buyer_has_place(accounts, trade.buyer),
+        accounts.has_place(trade.buyer, ACCOUNT_PLACES),
         Refusal::NoAccountPlace.at(trade.buyer),
     )?;
     require(
         seller_has_place(accounts, trade.buyer, trade.seller),
         Refusal::NoAccountPlace.at(trade.seller),
     )?;
-    require(trade_has_place(trades, ticket), Refusal::NoTradePlace)?;
+    require(
+        trades.has_place(ticket, TRADE_PLACES),
+        Refusal::NoTradePlace,
+    )?;
     require(ticket <= LAST_TICKET, Refusal::TradesUsedUp)?;
     require(buyer.cost_holds(), Refusal::OutOfRange.at(trade.buyer))?;
     require(seller.cost_holds(), Refusal::OutOfRange.at(trade.seller))
@@ -92,6 +96,7 @@ fn make_changes(accounts: &mut Table<'_, Account>, buyer: u32, seller: u32, chan
 
 // Enters a trade under its ticket. A refused trade changes neither table.
 // A book lends its tables side by side, with its contract and its ledger, and none of them keeps another.
+#[tactic(auto, using(crate::proofs::Passed::entry_place))]
 pub fn enter(
     accounts: &mut Table<'_, Account>,
     trades: &mut Table<'_, Trade>,

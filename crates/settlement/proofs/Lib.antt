@@ -1,8 +1,7 @@
-mod Cancelling
-mod Carrying
-mod Casts
-mod Owed
+pub mod Cancelling
+pub mod Owed
 pub mod Passing
 mod Ring
-mod Settled
+pub mod Sizes
 mod Turns
+pub mod Settled

@@ -1,13 +1,14 @@
 -- The payments at a price F after the last price, what they are refused for, and the records that they leave.
-use Rattle.std.specs.Prelude.{◌≡◌, false, not, ◌&&◌, ◌||◌, List, [], ◌∷◌, ◌++◌, map, ℤ, pos, ◌+ℤ◌, ◌-ℤ◌, ◌*ℤ◌, Some, None, Ok, Err, Option, Result, nat_le}
+use Rattle.std.specs.Prelude.{◌≡◌, false, not, ◌&&◌, ◌||◌, List, [], ◌∷◌, ◌++◌, map, ℤ, pos, ◌+ℤ◌, ◌-ℤ◌, ◌*ℤ◌, Some, None, Ok, Err, Option, Result}
 use Rattle.faults.specs.declared.Fault.{Fault}
-use Rattle.faults.specs.declared.Refusal.TheVariants.{UnknownAccount, AccountUnits, NotAdmitted, OutOfRange, NoCapacity}
+use Rattle.faults.specs.declared.Refusal.TheVariants.{UnknownAccount, AccountUnits, NotAdmitted, OutOfRange}
 use Rattle.faults.specs.Checks.{Check, check, ◌else◌}
 use Rattle.ledger.specs.declared.payment.Payment.{Payment}
 use Rattle.ledger.specs.Limits.{is_zero, reaches}
 use Rattle.ledger.specs.Meaning.{Meaning, Same}
-use Rattle.ledger.specs.Payments.{Paid, made}
+use Rattle.ledger.specs.Payments.{Paid, capacity_check}
 use Rattle.table.specs.declared.keyed.Keyed.{Keyed}
+use Rattle.table.specs.Records.{revalued}
 use Rattle.positions.specs.declared.records.Account.{Account}
 use Rattle.positions.specs.Limits.{units_within, cost_within}
 use Rattle.settlement.specs.declared.ending.Ending.{Ending}
@@ -44,7 +45,7 @@ pay_checks m last (Some F) xs =
     map (account_check m last F) xs
     ++ (map units_check xs
     ++ (map (balance_check m last F) xs
-    ++ ((nat_le (made (payments last F xs)) m.capacity else NoCapacity) ∷ [])))
+    ++ (capacity_check m (payments last F xs) ∷ [])))
 pay_checks m last None xs = map units_check xs ++ ((false else NotAdmitted) ∷ [])
 
 -- ---- what they leave
@@ -54,8 +55,11 @@ abbrev pub cost_after : Ending → Account → ℤ
 cost_after Close x = pos 0
 cost_after Settlement x = x.cost
 
+abbrev pub left_by : Ending → Account → Account
+left_by end x = record { units = x.units; units_at_close = x.units; cost = cost_after end x }
+
 abbrev pub carried : Ending → Keyed Account → Keyed Account
-carried end x = record { key = x.key; value = record { units = x.value.units; units_at_close = x.value.units; cost = cost_after end x.value } }
+carried end x = revalued (left_by end) x
 
 abbrev pub paid_at : ℤ → Option ℤ → List (Keyed Account) → List Payment
 paid_at last None xs = []

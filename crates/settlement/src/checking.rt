@@ -1,142 +1,124 @@
 // The checks of all payments, before one is made.
-ghost use Rattle.std.specs.Prelude.{◌≡◌, true, map, Some, None};
-ghost use Rattle.faults.specs.Checks.{first_fault, verdict};
-ghost use Rattle.ledger.specs.Meaning.{meaning};
+ghost use Rattle.std.specs.Prelude.{◌≡◌, Bool, map, ℤ, Some, None};
+ghost use Rattle.faults.specs.Checks.{Check, check, first_fault, verdict};
+ghost use Rattle.ledger.specs.Meaning.{Meaning, meaning};
 ghost use Rattle.ledger.specs.Payments.{made};
-ghost use Rattle.positions.specs.Limits.{units_within};
-ghost use Rattle.settlement.specs.Owed.{owed};
-ghost use Rattle.settlement.specs.Paying.{units_check, balance_check, account_check, pay_checks};
+ghost use Rattle.table.specs.declared.keyed.Keyed.{Keyed};
+ghost use Rattle.positions.specs.declared.records.Account.{Account};
+ghost use Rattle.settlement.specs.Owed.{owed, owed_check};
+ghost use Rattle.settlement.specs.Paying.{units_check, account_check, pay_checks};
 
-use crate::limits::{has_cost_within, has_units_within};
-use crate::payment::payment_to;
-use faults::{Fault, Refusal};
-use ledger::limits::is_in_range;
+use crate::payment::Repricing;
+use faults::{Fault, Refusal, require};
 use ledger::traits::{BalanceReader, CashLedger};
 use positions::Account;
-use prices::price::Price;
 use table::Keyed;
 
-// Whether the ledger knows the account, or there is nothing to pay it.
-fn can_be_paid<L: CashLedger>(record: Keyed<Account>, ledger: &L, last: Price, price: Price) -> bool
-    ensures { result ≡ (account_check (meaning L.BalanceReader.reading L.CashLedger.terms ledger.now) last.value price.value «record»).passes }
+// The first record that fails a test, refused under its account.
+fn check_each<F: Fn(Keyed<Account>) -> bool>(
+    records: &[Keyed<Account>],
+    refusal: Refusal,
+    passes: F,
+) -> Result<(), Fault>
+    requires { F.IsAlwaysCallable passes }
+    ensures { (f : Keyed Account → Check) → ((x : Keyed Account) (b : Bool) → F.post passes x b → f x ≡ check b refusal x.key) → result ≡ verdict tt (first_fault (map f records.now)) }
 {
-    let payment = payment_to(record, last, price);
+    for record in records {
+        require(passes(*record), refusal.at(record.key))?;
+    }
+    Ok(())
+}
+
+// Whether the ledger knows the account, or there is nothing to pay it.
+#[tactic(auto, using(crate::proofs::Owed::known_shown))]
+fn can_be_paid<L: CashLedger>(record: Keyed<Account>, ledger: &L, repricing: Repricing) -> bool
+    ensures { result ≡ (account_check (meaning L.BalanceReader.balances L.CashLedger.terms ledger.now) repricing.last.value repricing.price.value «record»).passes }
+{
+    let payment = repricing.payment_to(record);
     payment.is_zero() | ledger.is_known(record.key)
 }
 
-// Whether the payment leaves its account in the ledger's range.
-fn stays_in_range<L: CashLedger>(
-    record: Keyed<Account>,
-    ledger: &L,
-    last: Price,
-    price: Price,
-) -> bool
-    requires { units_within «record».value ≡ true }
-    ensures { result ≡ (balance_check (meaning L.BalanceReader.reading L.CashLedger.terms ledger.now) last.value price.value «record»).passes }
+// Whether the cost is within its limit, and the payment leaves its account in the ledger's range.
+#[tactic(auto, unfolding(crate::specs::Owed::owed_check))]
+fn stays_in_range<L: CashLedger>(record: Keyed<Account>, ledger: &L, repricing: Repricing) -> bool
+    ensures { result ≡ (owed_check (meaning L.BalanceReader.balances L.CashLedger.terms ledger.now) repricing.last.value repricing.price.value «record»).passes }
 {
-    let payment = payment_to(record, last, price);
-    let lowest = ledger.lowest_balance();
-    let highest = ledger.highest_balance();
+    let payment = repricing.payment_to(record);
     let balance = ledger.balance_of(record.key);
-    let reaches = is_in_range(lowest, highest, balance, payment.amount);
-    has_cost_within(record.value) & (payment.is_zero() | reaches)
+    let reaches = ledger.terms().reaches(balance, payment.amount);
+    record.value.has_cost_within() & (payment.is_zero() | reaches)
 }
 
 // The first account to be paid that the ledger does not know.
+#[tactic(auto, unfolding(crate::specs::Paying::account_check))]
 fn check_known<L: CashLedger>(
     records: &[Keyed<Account>],
     ledger: &L,
-    last: Price,
-    price: Price,
+    repricing: Repricing,
 ) -> Result<(), Fault>
-    ensures { result ≡ verdict tt (first_fault (map (account_check (meaning L.BalanceReader.reading L.CashLedger.terms ledger.now) last.value price.value) records.now)) }
+    ensures { result ≡ verdict tt (first_fault (map (account_check (meaning L.BalanceReader.balances L.CashLedger.terms ledger.now) repricing.last.value repricing.price.value) records.now)) }
 {
-    for record in records {
-        if !can_be_paid(*record, ledger, last, price) {
-            return Err(Fault {
-                refusal: Refusal::UnknownAccount,
-                account: record.key,
-            });
-        }
-    }
-    Ok(())
+    check_each(records, Refusal::UnknownAccount, |record| {
+        can_be_paid(record, ledger, repricing)
+    })
 }
 
 // The first account whose units are past their limit.
+#[tactic(auto, unfolding(crate::specs::Paying::units_check))]
 fn check_units(records: &[Keyed<Account>]) -> Result<(), Fault>
     ensures { result ≡ verdict tt (first_fault (map units_check records.now)) }
 {
-    for record in records {
-        if !has_units_within(record.value) {
-            return Err(Fault {
-                refusal: Refusal::AccountUnits,
-                account: record.key,
-            });
-        }
-    }
-    Ok(())
+    check_each(records, Refusal::AccountUnits, |record| {
+        record.value.has_units_within()
+    })
 }
 
 // The first account whose cost is past its limit, or that its payment would take out of range.
+#[tactic(auto, unfolding(crate::specs::Owed::owed_check))]
 fn check_range<L: CashLedger>(
     records: &[Keyed<Account>],
     ledger: &L,
-    last: Price,
-    price: Price,
+    repricing: Repricing,
 ) -> Result<(), Fault>
-    requires { first_fault (map units_check records.now) ≡ None }
-    ensures { result ≡ verdict tt (first_fault (map (balance_check (meaning L.BalanceReader.reading L.CashLedger.terms ledger.now) last.value price.value) records.now)) }
+    ensures { result ≡ verdict tt (first_fault (map (owed_check (meaning L.BalanceReader.balances L.CashLedger.terms ledger.now) repricing.last.value repricing.price.value) records.now)) }
 {
-    for record in records {
-        if !stays_in_range(*record, ledger, last, price) {
-            return Err(Fault {
-                refusal: Refusal::OutOfRange,
-                account: record.key,
-            });
-        }
-    }
-    Ok(())
+    check_each(records, Refusal::OutOfRange, |record| {
+        stays_in_range(record, ledger, repricing)
+    })
 }
 
 // How many payments there are to make.
-fn count_payments(records: &[Keyed<Account>], last: Price, price: Price) -> u64
-    ensures { result ≡ made (map (owed last.value price.value) records.now) }
+fn count_payments(records: &[Keyed<Account>], repricing: Repricing) -> u64
+    ensures { result ≡ made (map (owed repricing.last.value repricing.price.value) records.now) }
 {
-    let mut count = 0;
-    for record in records {
-        if !payment_to(*record, last, price).is_zero() {
-            count += 1;
-        }
-    }
-    count
+    records
+        .iter()
+        .filter(|record| !repricing.payment_to(**record).is_zero())
+        .count() as u64
 }
 
 // All accounts first, then all units, then all balances, then the capacity.
 pub(crate) fn check_payments<L: CashLedger>(
     records: &[Keyed<Account>],
     ledger: &L,
-    last: Price,
-    price: Price,
+    repricing: Repricing,
 ) -> Result<(), Fault>
-    ensures { result ≡ verdict tt (first_fault (pay_checks (meaning L.BalanceReader.reading L.CashLedger.terms ledger.now) last.value (Some price.value) records.now)) }
+    ensures { result ≡ verdict tt (first_fault (pay_checks (meaning L.BalanceReader.balances L.CashLedger.terms ledger.now) repricing.last.value (Some repricing.price.value) records.now)) }
 {
-    check_known(records, ledger, last, price)?;
+    check_known(records, ledger, repricing)?;
     check_units(records)?;
-    check_range(records, ledger, last, price)?;
-    if ledger.capacity() < count_payments(records, last, price) {
-        return Err(Fault::from(Refusal::NoCapacity));
-    }
+    check_range(records, ledger, repricing)?;
+    require(
+        count_payments(records, repricing) <= ledger.capacity(),
+        Refusal::NoCapacity,
+    )?;
     Ok(())
 }
 
 // Without a price there are no payments: it is refused in any case, for units past their limit first.
-pub(crate) fn check_unpriced<L: CashLedger>(
-    records: &[Keyed<Account>],
-    ledger: &L,
-    last: Price,
-) -> Result<(), Fault>
-    ensures { result ≡ verdict tt (first_fault (pay_checks (meaning L.BalanceReader.reading L.CashLedger.terms ledger.now) last.value None records.now)) }
+pub(crate) fn check_unpriced(records: &[Keyed<Account>]) -> Result<(), Fault>
+    ensures { (m : Meaning) (last : ℤ) → result ≡ verdict tt (first_fault (pay_checks m last None records.now)) }
 {
     check_units(records)?;
-    Err(Fault::from(Refusal::NotAdmitted))
+    Err(Refusal::NotAdmitted.into())
 }

@@ -4,11 +4,10 @@
 mod checking;
 mod ending;
 mod laws;
-mod limits;
 mod payment;
 mod settling;
 
 pub use ending::Ending;
 pub use laws::payments_cancel;
-pub use payment::payment_to;
+pub use payment::Repricing;
 pub use settling::settle_accounts;

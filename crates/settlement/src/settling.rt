@@ -1,89 +1,37 @@
 // The payments themselves, and the records that they leave.
-ghost use Rattle.std.specs.Prelude.{◌≡◌, map, Some, None, Ok};
+ghost use Rattle.std.specs.Prelude.{◌≡◌, map, None, Ok};
 ghost use Rattle.faults.specs.Checks.{first_fault};
 ghost use Rattle.ledger.specs.Meaning.{meaning};
 ghost use Rattle.ledger.specs.Payments.{Paid, fault_of_all};
-ghost use Rattle.table.specs.View.{records as records_of, room as room_of};
+ghost use Rattle.table.specs.View.{SamePlaces, records as records_of};
 ghost use Rattle.settlement.specs.Owed.{owed, priced};
-ghost use Rattle.settlement.specs.Paying.{Settles, carried, pay_checks};
+ghost use Rattle.settlement.specs.Paying.{Settles, pay_checks};
 
 use crate::checking::{check_payments, check_unpriced};
 use crate::ending::Ending;
-use crate::payment::payment_to;
+use crate::payment::Repricing;
 use faults::Fault;
 use ledger::traits::{BalanceReader, CashLedger};
 use positions::Account;
 use prices::price::Price;
 use table::{Keyed, Table};
 
-// Makes payments that have passed every check, in table order.
+// Makes payments that have passed every check, in table order, each formed as it is made: a row of them would need memory.
 fn pay_all<L: CashLedger>(
     records: &[Keyed<Account>],
     ledger: &mut L,
-    last: Price,
-    price: Price,
+    repricing: Repricing,
 ) -> Result<(), Fault>
-    requires { fault_of_all (meaning L.BalanceReader.reading L.CashLedger.terms ledger.old) (map (owed last.value price.value) records.now) ≡ None }
+    requires { fault_of_all (meaning L.BalanceReader.balances L.CashLedger.terms ledger.old) (map (owed repricing.last.value repricing.price.value) records.now) ≡ None }
     ensures answer { result ≡ Ok tt }
-    ensures paid { Paid (meaning L.BalanceReader.reading L.CashLedger.terms ledger.old) (map (owed last.value price.value) records.now) (meaning L.BalanceReader.reading L.CashLedger.terms ledger.new) }
+    ensures paid { Paid (meaning L.BalanceReader.balances L.CashLedger.terms ledger.old) (map (owed repricing.last.value repricing.price.value) records.now) (meaning L.BalanceReader.balances L.CashLedger.terms ledger.new) }
 {
     for record in records {
-        let payment = payment_to(*record, last, price);
+        let payment = repricing.payment_to(*record);
         if !payment.is_zero() {
             ledger.pay(payment.account, payment.amount)?;
         }
     }
-    Ok(())
-}
-
-// The record that a day or the contract leaves: a close empties the day's cost, the settlement has none.
-fn carried_over(record: Keyed<Account>, ending: Ending) -> Keyed<Account>
-    ensures { result ≡ carried ending «record» }
-{
-    let cost = match ending {
-        Ending::Close => 0,
-        Ending::Settlement => record.value.cost,
-    };
-    let value = Account {
-        units: record.value.units,
-        units_at_close: record.value.units,
-        cost,
-    };
-    Keyed {
-        key: record.key,
-        value,
-    }
-}
-
-// Carries every record over.
-fn carry_all(accounts: &mut Table<'_, Account>, ending: Ending)
-    ensures records { records_of accounts.new ≡ map (carried ending) (records_of accounts.old) }
-    ensures room { room_of accounts.new ≡ room_of accounts.old }
-    ensures lender { accounts.new.places.ghost_name ≡ accounts.old.places.ghost_name }
-{
-    for place in 0..accounts.count() {
-        if let Some(record) = accounts.at(place) {
-            let _ = accounts.set_at(place, carried_over(record, ending).value);
-        }
-    }
-}
-
-// At a price: all is checked, paid and carried over.
-fn settle_at<L: CashLedger>(
-    accounts: &mut Table<'_, Account>,
-    ledger: &mut L,
-    ending: Ending,
-    last: Price,
-    price: Price,
-) -> Result<(), Fault>
-    ensures outcome { Settles (first_fault (pay_checks (meaning L.BalanceReader.reading L.CashLedger.terms ledger.old) last.value (Some price.value) (records_of accounts.old))) ending last.value (Some price.value) result (records_of accounts.old) (records_of accounts.new) (meaning L.BalanceReader.reading L.CashLedger.terms ledger.old) (meaning L.BalanceReader.reading L.CashLedger.terms ledger.new) }
-    ensures room { room_of accounts.new ≡ room_of accounts.old }
-    ensures lender { accounts.new.places.ghost_name ≡ accounts.old.places.ghost_name }
-{
-    let records = accounts.records();
-    check_payments(records, ledger, last, price)?;
-    pay_all(records, ledger, last, price)?;
-    carry_all(accounts, ending);
     Ok(())
 }
 
@@ -96,12 +44,16 @@ pub fn settle_accounts<L: CashLedger>(
     last: Price,
     price: Option<Price>,
 ) -> Result<(), Fault>
-    ensures outcome { Settles (first_fault (pay_checks (meaning L.BalanceReader.reading L.CashLedger.terms ledger.old) last.value (priced price) (records_of accounts.old))) ending last.value (priced price) result (records_of accounts.old) (records_of accounts.new) (meaning L.BalanceReader.reading L.CashLedger.terms ledger.old) (meaning L.BalanceReader.reading L.CashLedger.terms ledger.new) }
-    ensures room { room_of accounts.new ≡ room_of accounts.old }
-    ensures lender { accounts.new.places.ghost_name ≡ accounts.old.places.ghost_name }
+    ensures outcome { Settles (first_fault (pay_checks (meaning L.BalanceReader.balances L.CashLedger.terms ledger.old) last.value (priced price) (records_of accounts.old))) ending last.value (priced price) result (records_of accounts.old) (records_of accounts.new) (meaning L.BalanceReader.balances L.CashLedger.terms ledger.old) (meaning L.BalanceReader.balances L.CashLedger.terms ledger.new) }
+    ensures places { SamePlaces accounts.old accounts.new }
 {
-    match price {
-        Some(price) => settle_at(accounts, ledger, ending, last, price),
-        None => check_unpriced(accounts.records(), ledger, last),
-    }
+    let records = accounts.records();
+    let Some(price) = price else {
+        return check_unpriced(records);
+    };
+    let repricing = Repricing { last, price };
+    check_payments(records, ledger, repricing)?;
+    pay_all(records, ledger, repricing)?;
+    accounts.map_values(|account| ending.leaves(account));
+    Ok(())
 }

@@ -4,7 +4,7 @@
 #[cfg(test)]
 mod tests {
     use balances::table::BalanceTable;
-    use faults::{Fault, Refusal};
+    use faults::Refusal;
     use ledger::traits::BalanceReader;
     use positions::{Account, Trade, bust, enter};
     use prices::price::Price;
@@ -28,10 +28,6 @@ mod tests {
             units,
             price: 10_000_000,
         }
-    }
-
-    fn refused(refusal: Refusal, account: u32) -> Result<(), Fault> {
-        Err(Fault { refusal, account })
     }
 
     // 250 units bought at 1,000 are paid 10,764.8500 at 1,043.0594, and lose 29,568.1250 from there to 924.7869.
@@ -71,7 +67,7 @@ mod tests {
             second,
             None,
         );
-        assert_eq!(rt; unpriced, refused(Refusal::NotAdmitted, 0));
+        assert_eq!(rt; unpriced, Err(Refusal::NotAdmitted.into()));
         assert_eq!(rt; ledger.balance_of(101), -188_032_750);
     }
 
@@ -88,11 +84,11 @@ mod tests {
         let most = enter(&mut accounts, &mut trades, 1, trade_of(125_000));
         assert_eq!(rt; most, Ok(()));
         let one_more = enter(&mut accounts, &mut trades, 2, trade_of(1));
-        assert_eq!(rt; one_more, refused(Refusal::AccountUnits, 101));
+        assert_eq!(rt; one_more, Err(Refusal::AccountUnits.at(101)));
         assert_eq!(rt; bust(&mut accounts, &mut trades, 1), Ok(()));
         assert_eq!(rt;
             bust(&mut accounts, &mut trades, 1),
-            refused(Refusal::NoSuchTrade, 0)
+            Err(Refusal::NoSuchTrade.into())
         );
         assert_eq!(rt; trades.count(), 0);
         let held = accounts.find(101);
