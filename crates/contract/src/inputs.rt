@@ -109,8 +109,5 @@ fn check_settle(value: Option<u32>) -> Result<Checked, Fault>
 fn check_value(value: Option<u32>) -> Result<Option<IndexValue>, Refusal>
     ensures { elim result [ Ok x ↦ (first_fault (value_checks value) ≡ None) × elim x [ Some v ↦ value ≡ Some v.value | None ↦ value ≡ None ] | Err refusal ↦ first_fault (value_checks value) ≡ Some (plain_fault refusal) ] }
 {
-    match value {
-        Some(value) => Ok(Some(IndexValue::of(value)?)),
-        None => Ok(None),
-    }
+    value.map(IndexValue::of).transpose()
 }

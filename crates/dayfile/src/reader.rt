@@ -29,9 +29,7 @@ fn item_at(bytes: &[u8], place: usize) -> Result<Read, FileFault>
     ensures { result ≡ item_at bytes.now place }
 {
     let first = word_at(bytes, place);
-    let Ok(kind) = Kind::try_from(first / BODIES) else {
-        return Err(wrong_word(place));
-    };
+    let kind = Kind::try_from(first / BODIES).map_err(|_| wrong_word(place))?;
     let body = first % BODIES;
     match kind {
         Kind::ExpectedValues | Kind::Accounts | Kind::IndexValue => {

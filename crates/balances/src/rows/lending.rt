@@ -39,9 +39,7 @@ impl<R> Rows<R> {
         ensures* lends { sem 𝓛 (LendsIf (the_row R.row) R.row self.entry result (λ w. record { rows = record { items = with_kept self.old.rows.items account w } }) self.old) }
         ensures value { option_map (λ r. r.now) result ≡ kept self.old.rows.items account }
     {
-        let Some(index) = self.rows.iter().position(|row| row.account == account) else {
-            return None;
-        };
+        let index = self.rows.iter().position(|row| row.account == account)?;
         self.at_mut(index)
     }
 
