@@ -40,6 +40,7 @@ fn item_at(bytes: &[u8], place: usize) -> Result<Read, FileFault>
     }
 }
 
+// A place beside the bytes, since each fault tells the place where it stands.
 #[derive(Drop)]
 pub struct Reader<'a> {
     bytes: &'a [u8],

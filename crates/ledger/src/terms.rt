@@ -9,7 +9,7 @@ use crate::limits::{HIGHEST_BALANCE, LARGEST_PAYMENT, LOWEST_BALANCE};
 use faults::{Fault, Refusal, require};
 
 // How many more payments there may be, and between which balances.
-#[derive(Clone, Copy)]
+#[derive(Clone, Copy, PartialEq, Eq, Debug)]
 pub struct Terms {
     pub capacity: u64,
     pub lowest: i64,

@@ -31,7 +31,8 @@ pub trait BalanceReader {
     }
 }
 
-// A balance reader that also pays.
+// A balance reader that also pays. A clause over any ledger writes its meaning out, `meaning L.BalanceReader.balances L.CashLedger.terms`: of a ghost
+// member with that for its default a clause could not know that no ledger gives another.
 pub trait CashLedger: BalanceReader {
     ghost terms: { Self → Terms };
 

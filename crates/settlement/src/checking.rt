@@ -1,4 +1,5 @@
-// The checks of all payments, before one is made.
+// The checks of all payments, before one is made. The ledger's own checks go over a row of payments; here each payment is formed where it is asked
+// for, since a row of them would need memory.
 ghost use Rattle.std.specs.Prelude.{◌≡◌, Bool, map, ℤ, Some, None};
 ghost use Rattle.faults.specs.Checks.{Check, check, first_fault, verdict};
 ghost use Rattle.ledger.specs.Meaning.{Meaning, meaning};

@@ -3,7 +3,7 @@ ghost use Rattle.settlement.specs.Paying.{left_by};
 
 use positions::Account;
 
-// What ends: a day, or the contract.
+// What ends: a day, or the contract. An enum and no closure: there are these two kinds and no other, and what is promised is told by them.
 #[derive(Clone, Copy, PartialEq, Eq, Debug)]
 pub enum Ending {
     Close,

@@ -9,7 +9,7 @@ use prices::price::Price;
 use table::Keyed;
 
 // A price, and the last one before it.
-#[derive(Clone, Copy)]
+#[derive(Clone, Copy, PartialEq, Eq)]
 pub struct Repricing {
     pub last: Price,
     pub price: Price,

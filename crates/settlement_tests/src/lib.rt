@@ -20,6 +20,16 @@ mod tests {
         },
     };
 
+    const NO_TRADE: Keyed<Trade> = Keyed {
+        key: 0,
+        value: Trade {
+            buyer: 0,
+            seller: 0,
+            units: 0,
+            price: 0,
+        },
+    };
+
     // From 102 to 101, at 1,000 points.
     fn trade_of(units: u32) -> Trade {
         Trade {
@@ -35,10 +45,7 @@ mod tests {
     fn two_closes(rt: HostRuntime) {
         let mut places = [NO_ACCOUNT; 2];
         let mut accounts = Table::new(&mut places);
-        let mut places = [Keyed {
-            key: 0,
-            value: trade_of(0),
-        }; 1];
+        let mut places = [NO_TRADE; 1];
         let mut trades = Table::new(&mut places);
         let mut ledger = BalanceTable::new(&[101, 102]);
         let base = Price { value: 10_000_000 };
@@ -76,10 +83,7 @@ mod tests {
     fn limit_and_bust(rt: HostRuntime) {
         let mut places = [NO_ACCOUNT; 2];
         let mut accounts = Table::new(&mut places);
-        let mut places = [Keyed {
-            key: 0,
-            value: trade_of(0),
-        }; 2];
+        let mut places = [NO_TRADE; 2];
         let mut trades = Table::new(&mut places);
         let most = enter(&mut accounts, &mut trades, 1, trade_of(125_000));
         assert_eq!(rt; most, Ok(()));

@@ -8,7 +8,8 @@ use crate::keyed::Keyed;
 use std::error::Error;
 use std::fmt;
 
-// The first `count` places hold the records, in strictly rising key, so that each key stands once.
+// The first `count` places hold the records, in strictly rising key, so that each key stands once. A count beside lent places and no Vec: a table
+// allocates nothing.
 #[derive(Drop)]
 pub struct Table<'a, V> {
     places: &'a mut [Keyed<V>],
