@@ -1,5 +1,5 @@
 -- The text of figures, lines and refusals, as lists of bytes.
-use Rattle.std.specs.Prelude.{ℕ, ◌-◌, ◌/◌, ◌%◌, List, [], ◌++◌, length, replicate, ℤ, pos, negsuc, Some, None, codes, decimal, Option, unsigned_abs}
+use Rattle.std.specs.Prelude.{ℕ, ◌-◌, ◌/◌, ◌%◌, List, [], ◌++◌, length, replicate, flat_map, ℤ, pos, negsuc, Some, None, Ok, Err, codes, decimal, Option, Result, unsigned_abs}
 use Rattle.std.specs.Option.{unwrap_or}
 use Rattle.contract.specs.Calls.{name_word}
 use Rattle.dayfile.specs.declared.file_fault.Cause.{Cause}
@@ -47,3 +47,16 @@ fault_words place call None = codes "no " ++ (call ++ (codes " at " ++ decimal p
 
 abbrev pub fault_text : FileFault → List ℕ
 fault_text x = fault_words x.place (call_word x.cause) (fault_of x.cause)
+
+-- ---- the sheet
+
+abbrev pub on_a_line : List ℕ → List ℕ
+on_a_line text = text ++ codes "\n"
+
+abbrev pub end_text : Result Unit FileFault → List ℕ
+end_text (Ok x) = []
+end_text (Err fault) = on_a_line (fault_text fault)
+
+-- a line for each accepted call that has one, and then what ended the run, if it was refused
+abbrev pub sheet_text : List Line → Result Unit FileFault → List ℕ
+sheet_text lines end = flat_map (λ line. on_a_line (line_text line)) lines ++ end_text end

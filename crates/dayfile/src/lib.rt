@@ -8,6 +8,7 @@ pub mod limits;
 pub mod lines;
 pub mod reader;
 mod runs;
+mod sheets;
 mod texts;
 mod words;
 

@@ -5,21 +5,13 @@
 mod tests {
     use dayfile::{Accumulated, Day, Money};
     use std::alloc::AllocGlobal;
-    use std::fmt::Write;
     use std::process::Abort;
     use std::test::*;
 
     fn sheet(rt: &impl AllocGlobal, bytes: &[u8]) -> Result<String, Fail> {
         let mut day = Day::new(rt.alloc());
         let end = day.run(bytes);
-        let mut text = String::new(rt.alloc());
-        for line in day.lines.iter() {
-            writeln!(text, "{line}")?;
-        }
-        if let Err(fault) = end {
-            writeln!(text, "{fault}")?;
-        }
-        Ok(text)
+        Ok(day.sheet(rt.alloc(), end)?)
     }
 
     fn expect(rt: &(impl Abort + AllocGlobal), words: &[u32], expected: &str) -> Result<(), Fail> {

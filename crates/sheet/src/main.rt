@@ -2,10 +2,9 @@
 #![tactic(auto)]
 
 use anyhow::anyhow;
-use dayfile::Day;
 use dayfile::limits::LONGEST_FILE;
-use std::fmt::Write as _;
-use std::io::{Read, Write as _};
+use dayfile::{Cause, Day};
+use std::io::{Read, Write};
 
 fn print_sheet(rt: &HostRuntime) -> anyhow::Result<()> {
     let mut bytes = Vec::new(rt.alloc());
@@ -15,16 +14,10 @@ fn print_sheet(rt: &HostRuntime) -> anyhow::Result<()> {
         .read_to_end(&mut bytes)?;
     let mut day = Day::new(rt.alloc());
     let end = day.run(&bytes);
-    let mut sheet = String::new(rt.alloc());
-    for line in day.lines.iter() {
-        writeln!(sheet, "{line}")?;
+    if end.is_err_and(|fault| fault.cause == Cause::Memory) {
+        return Err(anyhow!("no memory for the lines of the sheet"));
     }
-    if let Err(fault) = end {
-        if fault.cause.fault().is_none() {
-            return Err(anyhow!("no memory for the lines of the sheet"));
-        }
-        writeln!(sheet, "{fault}")?;
-    }
+    let sheet = day.sheet(rt.alloc(), end)?;
     rt.stdout().write_all(sheet.as_bytes())?;
     Ok(())
 }
