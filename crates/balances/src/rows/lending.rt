@@ -39,6 +39,7 @@ impl<R> Rows<R> {
         ensures* lends { sem 𝓛 (LendsIf (the_row R.row) R.row self.entry result (λ w. record { rows = record { items = with_kept self.old.rows.items account w } }) self.old) }
         ensures value { option_map (λ r. r.now) result ≡ kept self.old.rows.items account }
     {
+        // With a `?` here the loan has no proof.
         let Some(index) = self.rows.iter().position(|row| row.account == account) else {
             return None;
         };
