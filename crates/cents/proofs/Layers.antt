@@ -12,7 +12,7 @@ use Rattle.prices.specs.Cents.{cents, rest}
 use Rattle.faults.specs.Checks.{first_fault, verdict}
 use Rattle.ledger.specs.declared.terms.Terms.{Terms}
 use Rattle.ledger.specs.Limits.{Within, farthest_balance, inside, is_zero}
-use Rattle.ledger.specs.Meaning.{Meaning, SoundTerms}
+use Rattle.ledger.specs.Meaning.{Meaning}
 use Rattle.ledger.specs.Payments.{Raised, fault_of, term_checks}
 use Rattle.ledger.specs.Totals.{if_within}
 use Rattle.ledger.proofs.Money.{back, back_within, reach}
@@ -103,6 +103,9 @@ below_raised true m a c n e s =
     let here = s.balance a in
     record { known = s.known; here = omega (arith, ints); others = λ d _. s.balance d; capacity = inl s.capacity; lowest = s.lowest; highest = s.highest }
 
+pub total_none : (m : Meaning) (rows : List (Row Rest)) (a : ℕ) → kept rows a ≡ None → layer_balances m rows a ≡ None
+total_none m rows a none = rw none
+
 module _ (m : Meaning) (rows : List (Row Rest)) (a : ℕ) (r : Rest) (stays : kept rows a ≡ Some r) where
   pub total_over : layer_balances m rows a ≡ over m a r
   total_over = rw stays
@@ -110,9 +113,9 @@ module _ (m : Meaning) (rows : List (Row Rest)) (a : ℕ) (r : Rest) (stays : ke
   pub layer_fault : (x b : ℤ) → over m a r ≡ Some b → fault_of (layer m rows) a x ≡ first_fault (term_checks (layer_terms (terms_of m)) a b x)
   layer_fault x b e = fault_known (layer m rows) a b x (rw (total_over, e)) (rw (total_over, e))
 
-pub layer_taken : {U : Type 0} (u v : U) (m : Meaning) (a : ℕ) (r : Rest) (b x : ℤ) (s : Terms) → over m a r ≡ Some b → SoundTerms {S = Unit {0}} (λ _. terms_of m) → SFits w64 x → s ≡ layer_terms (terms_of m) → Ok u ≡ verdict v (first_fault (term_checks s a (back b) (back x))) → Taken (layer_terms (terms_of m)) a b x
-layer_taken u v m a r b x s e sound fits is ok =
-    taken u v s (layer_terms (terms_of m)) a b x (lowest_within m.lowest (sound.lowest tt)) (sound.highest tt) (told m a r b e).within fits is ok
+pub layer_taken : {U : Type 0} (u v : U) (m : Meaning) (a : ℕ) (r : Rest) (b x : ℤ) (s : Terms) → over m a r ≡ Some b → Within m.lowest → Within m.highest → SFits w64 x → s ≡ layer_terms (terms_of m) → Ok u ≡ verdict v (first_fault (term_checks s a (back b) (back x))) → Taken (layer_terms (terms_of m)) a b x
+layer_taken u v m a r b x s e low high fits is ok =
+    taken u v s (layer_terms (terms_of m)) a b x (lowest_within m.lowest low) high (told m a r b e).within fits is ok
 
 module _ (m : Meaning) (a : ℕ) (r : Rest) (b x : ℤ) (e : over m a r ≡ Some b) (taken : Taken (layer_terms (terms_of m)) a b x) where
   known : Known m a r b
