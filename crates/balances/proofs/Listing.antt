@@ -1,10 +1,11 @@
 -- Lists of accounts.
-use Rattle.std.proofs.Common.{◌≡◌, ℕ, ◌+◌, ◌<◌, ◌≤◌, Bool, true, false, ◌||◌, eqb, List, [], ◌∷◌, ◌++◌, length, get_or, take, drop, Some, None, Ok, Err, fold, Result, sym, refl, ap, ◌∙◌, inl, inr, arith}
+use Rattle.std.proofs.Common.{◌≡◌, ℕ, ◌+◌, ◌<◌, ◌≤◌, true, false, ◌||◌, eqb, List, [], ◌∷◌, ◌++◌, length, get_or, take, drop, Some, None, Ok, Err, fold, Result, sym, ap, ◌∙◌, inl, inr, arith}
 use Rattle.std.specs.Result.{result_unwrap_or}
 use Rattle.std.specs.List.{list_all}
 use Rattle.std.proofs.lemmas.List.{append-nil, append_assoc, length-append, take-append-drop, get_or_at}
 use Rattle.std.proofs.lemmas.List.Folds.{list_any-append}
 use Rattle.std.proofs.lemmas.List.Sums.{fold-append, fold_more}
+use Rattle.std.proofs.Math.Bool.{or_assoc, or-false}
 use Rattle.std.proofs.lemmas.Bool.{le-leb, lt-leb, cases_Bool, eqb-true}
 use Rattle.faults.specs.declared.Fault.{Fault}
 use Rattle.faults.specs.declared.Refusal.TheVariants.{AccountNumber, NoAccountPlace}
@@ -23,9 +24,6 @@ grows (y ∷ ys) seen = elim (cases_Bool (has seen y)) [
   | inr e ↦ (let r = grows ys (seen ++ y ∷ []) in (y ∷ r.0, simp e (r.1 ∙ append_assoc seen (y ∷ []) r.0)))
 ]
 
-pub different_more : (xs : List ℕ) (i : ℕ) → different xs ≡ fold add_new (different (take i xs)) (drop i xs)
-different_more xs i = ap different (sym (take-append-drop i xs)) ∙ fold-append add_new [] (take i xs) (drop i xs)
-
 pub step : (xs : List ℕ) (i : ℕ) → i < length xs → different (take (i + 1) xs) ≡ add_new (different (take i xs)) (get_or xs i 0)
 step xs i h = fold_more add_new [] xs i 0 h
 
@@ -34,31 +32,23 @@ pub sixty_fifth : (xs s : List ℕ) (i a : ℕ) → i < length xs → get_or xs 
 sixty_fifth xs s i a h at d new n =
     let e : different (take (i + 1) xs) ≡ s ++ a ∷ [] = step xs i h ∙ rw (at, d, new) in
     let g = grows (drop (i + 1) xs) (s ++ a ∷ []) in
-    let w : different xs ≡ s ++ (a ∷ g.0) = different_more xs (i + 1) ∙ ap (λ t. fold add_new t (drop (i + 1) xs)) e ∙ g.1 ∙ append_assoc s (a ∷ []) g.0 in
+    let w : different xs ≡ s ++ (a ∷ g.0) = ap different (sym (take-append-drop (i + 1) xs)) ∙ fold-append add_new [] (take (i + 1) xs) (drop (i + 1) xs) ∙ ap (λ t. fold add_new t (drop (i + 1) xs)) e ∙ g.1 ∙ append_assoc s (a ∷ []) g.0 in
     (rw w (rw (length-append s (a ∷ g.0)) (omega arith)), ap (λ t. get_or t 64 0) w ∙ get_or_at s a g.0 0 64 n)
 
 -- the different accounts are those of the list
-or_false : (p : Bool) → (p || false) ≡ p
-or_false true = refl
-or_false false = refl
-
-or_assoc : (p q r : Bool) → (p || (q || r)) ≡ ((p || q) || r)
-or_assoc true q r = refl
-or_assoc false q r = refl
-
 has-add : (seen : List ℕ) (x a : ℕ) → has (add_new seen x) a ≡ (has seen a || eqb x a)
 has-add seen x a = elim (cases_Bool (has seen x)) [
   | inl e ↦ rw e (elim (cases_Bool (eqb x a)) [
     | inl t ↦ (let k : has seen a ≡ true = ap (has seen) (sym (eqb-true x a t)) ∙ e in simp (k, t))
-    | inr t ↦ simp t (sym (or_false (has seen a)))
+    | inr t ↦ simp t (sym (or-false (has seen a)))
   ])
-  | inr e ↦ rw e (list_any-append (λ y. eqb y a) seen (x ∷ []) ∙ ap (λ b. has seen a || b) (or_false (eqb x a)))
+  | inr e ↦ rw e (list_any-append (λ y. eqb y a) seen (x ∷ []) ∙ ap (λ b. has seen a || b) (or-false (eqb x a)))
 ]
 
 has_folded : (xs seen : List ℕ) (a : ℕ) → has (fold add_new seen xs) a ≡ (has seen a || has xs a)
-has_folded [] seen a = sym (or_false (has seen a))
+has_folded [] seen a = sym (or-false (has seen a))
 has_folded (x ∷ xs) seen a =
-    has_folded xs (add_new seen x) a ∙ ap (λ b. b || has xs a) (has-add seen x a) ∙ sym (or_assoc (has seen a) (eqb x a) (has xs a))
+    has_folded xs (add_new seen x) a ∙ ap (λ b. b || has xs a) (has-add seen x a) ∙ or_assoc (has seen a) (eqb x a) (has xs a)
 
 -- ---- refusals of a list
 

@@ -1,22 +1,24 @@
 -- The cents layer over any ledger's meaning.
-use Rattle.std.proofs.Common.{◌≡◌, ℕ, ◌<◌, ◌≤◌, Bool, true, false, cond, not, ◌&&◌, List, ℤ, pos, ◌+ℤ◌, ◌*ℤ◌, nat_abs, is_some, Some, None, Ok, Option, unwrap_or, sym, refl, ap, ◌∙◌, inl, inr, arith, w64, SFits}
+use Rattle.std.proofs.Common.{◌≡◌, ℕ, ◌≤◌, Bool, true, false, cond, not, ◌&&◌, List, ℤ, pos, ◌+ℤ◌, ◌*ℤ◌, nat_abs, is_some, Some, None, Ok, Option, unwrap_or, sym, refl, ap, ◌∙◌, inl, inr, arith, w64, SFits}
 use lib.IntN.{+ℤ_idr}
-use lib.Signed.{lt_z, ◌≤ℤ◌}
+use lib.Signed.{le_z, lt_z, ◌≤ℤ◌}
 use Rattle.std.specs.Int.{int_min}
+use Rattle.std.specs.Bool.{then_some}
 use Rattle.std.specs.Option.{option_and_then}
 use Rattle.std.proofs.lemmas.Int.{to_z-of_z, ints}
 use Rattle.std.proofs.lemmas.Bool.{cases_Bool, cases_eq, and_right, and_parts}
+use Rattle.std.proofs.lemmas.Bool.Decides.{nat_tests}
 use Rattle.prices.specs.Cents.{cents, rest}
 use Rattle.faults.specs.Checks.{first_fault, verdict}
 use Rattle.ledger.specs.declared.terms.Terms.{Terms}
-use Rattle.ledger.specs.Limits.{Within, farthest_balance, is_zero}
-use Rattle.ledger.specs.Meaning.{Meaning, SoundTerms}
+use Rattle.ledger.specs.Limits.{Within, farthest_balance, inside, is_zero}
+use Rattle.ledger.specs.Meaning.{Meaning}
 use Rattle.ledger.specs.Payments.{Raised, fault_of, term_checks}
 use Rattle.ledger.specs.Totals.{if_within}
 use Rattle.ledger.proofs.Money.{back, back_within, reach}
 use Rattle.ledger.proofs.Paid.{zero_is}
 use Rattle.ledger.proofs.Refused.{not_refused}
-use Rattle.ledger.proofs.Totals.{if_inside, if_outside, if_told}
+use Rattle.ledger.proofs.Totals.{if_inside, if_told}
 use Rattle.balances.specs.declared.rows.Row.{Row}
 use Rattle.balances.specs.Lists.{on_list}
 use Rattle.balances.specs.Lookup.{kept, with_kept}
@@ -65,17 +67,17 @@ module _ (m : Meaning) (a : ℕ) (r : Rest) where
     unfolding over
     over_known = rw (low, known, below)
 
-    pub over_none : lt_z (pos farthest_balance) (b +ℤ pos r.value) ≡ true → over m a r ≡ None
-    over_none h = over_known ∙ if_outside (b +ℤ pos r.value) (above (b +ℤ pos r.value) h)
+    -- the test of the sum, as the code makes it
+    pub over_told : Within b → over m a r ≡ then_some (le_z (b +ℤ pos r.value) (pos farthest_balance)) (b +ℤ pos r.value)
+    unfolding if_within
+    over_told w = over_known ∙ rw (inside_told b r.value w) (some_if (le_z (b +ℤ pos r.value) (pos farthest_balance)))
       where
-        above : (y : ℤ) → lt_z (pos farthest_balance) y ≡ true → farthest_balance < nat_abs y
-        above y h = grind (arith, ints)
+        some_if : (t : Bool) → cond t (Some (b +ℤ pos r.value)) None ≡ then_some t (b +ℤ pos r.value)
+        some_if true = refl
+        some_if false = refl
 
-    pub over_some : Within b → lt_z (pos farthest_balance) (b +ℤ pos r.value) ≡ false → over m a r ≡ Some (b +ℤ pos r.value)
-    over_some w h = over_known ∙ if_inside (b +ℤ pos r.value) (inside b r.value w h)
-      where
-        inside : (b : ℤ) (n : ℕ) → Within b → lt_z (pos farthest_balance) (b +ℤ pos n) ≡ false → Within (b +ℤ pos n)
-        inside b n w h = grind (arith, ints)
+        inside_told : (b : ℤ) (n : ℕ) → Within b → inside farthest_balance (b +ℤ pos n) ≡ le_z (b +ℤ pos n) (pos farthest_balance)
+        inside_told b n w = grind (arith, ints, nat_tests)
 
 -- ---- the layer's range
 
@@ -101,6 +103,9 @@ below_raised true m a c n e s =
     let here = s.balance a in
     record { known = s.known; here = omega (arith, ints); others = λ d _. s.balance d; capacity = inl s.capacity; lowest = s.lowest; highest = s.highest }
 
+pub total_none : (m : Meaning) (rows : List (Row Rest)) (a : ℕ) → kept rows a ≡ None → layer_balances m rows a ≡ None
+total_none m rows a none = rw none
+
 module _ (m : Meaning) (rows : List (Row Rest)) (a : ℕ) (r : Rest) (stays : kept rows a ≡ Some r) where
   pub total_over : layer_balances m rows a ≡ over m a r
   total_over = rw stays
@@ -108,9 +113,9 @@ module _ (m : Meaning) (rows : List (Row Rest)) (a : ℕ) (r : Rest) (stays : ke
   pub layer_fault : (x b : ℤ) → over m a r ≡ Some b → fault_of (layer m rows) a x ≡ first_fault (term_checks (layer_terms (terms_of m)) a b x)
   layer_fault x b e = fault_known (layer m rows) a b x (rw (total_over, e)) (rw (total_over, e))
 
-pub layer_taken : {U : Type 0} (u v : U) (m : Meaning) (a : ℕ) (r : Rest) (b x : ℤ) (s : Terms) → over m a r ≡ Some b → SoundTerms {S = Unit {0}} (λ _. terms_of m) → SFits w64 x → s ≡ layer_terms (terms_of m) → Ok u ≡ verdict v (first_fault (term_checks s a (back b) (back x))) → Taken (layer_terms (terms_of m)) a b x
-layer_taken u v m a r b x s e sound fits is ok =
-    taken u v s (layer_terms (terms_of m)) a b x (lowest_within m.lowest (sound.lowest tt)) (sound.highest tt) (told m a r b e).within fits is ok
+pub layer_taken : {U : Type 0} (u v : U) (m : Meaning) (a : ℕ) (r : Rest) (b x : ℤ) (s : Terms) → over m a r ≡ Some b → Within m.lowest → Within m.highest → SFits w64 x → s ≡ layer_terms (terms_of m) → Ok u ≡ verdict v (first_fault (term_checks s a (back b) (back x))) → Taken (layer_terms (terms_of m)) a b x
+layer_taken u v m a r b x s e low high fits is ok =
+    taken u v s (layer_terms (terms_of m)) a b x (lowest_within m.lowest low) high (told m a r b e).within fits is ok
 
 module _ (m : Meaning) (a : ℕ) (r : Rest) (b x : ℤ) (e : over m a r ≡ Some b) (taken : Taken (layer_terms (terms_of m)) a b x) where
   known : Known m a r b

@@ -39,10 +39,7 @@ fn balance_over<L: CashLedger>(below: &L, account: u32, rest: Rest) -> Option<i6
         return None;
     }
     let balance = below.balance(account)? + i64::from(rest.value);
-    if balance > HIGHEST_BALANCE {
-        return None;
-    }
-    Some(balance)
+    (balance <= HIGHEST_BALANCE).then_some(balance)
 }
 
 impl<L: CashLedger> Cents<L> {
