@@ -1,41 +1,19 @@
 -- Lists of accounts.
-use Rattle.std.proofs.Common.{◌≡◌, ℕ, ◌+◌, ◌<◌, ◌≤◌, Bool, true, false, ◌||◌, eqb, ltb, List, [], ◌∷◌, ◌++◌, length, get_or, take, drop, is_some, Some, None, Ok, Err, fold, Option, Result, sym, refl, ap, ◌∙◌, inl, inr, arith}
+use Rattle.std.proofs.Common.{◌≡◌, ℕ, ◌+◌, ◌<◌, ◌≤◌, true, false, ◌||◌, eqb, List, [], ◌∷◌, ◌++◌, length, get_or, take, drop, Some, None, Ok, Err, fold, Result, sym, ap, ◌∙◌, inl, inr, arith}
 use Rattle.std.specs.Result.{result_unwrap_or}
-use Rattle.std.specs.List.{list_all, position, position_or_len}
+use Rattle.std.specs.List.{list_all}
 use Rattle.std.proofs.lemmas.List.{append-nil, append_assoc, length-append, take-append-drop, get_or_at}
-use Rattle.std.proofs.lemmas.List.Folds.{list_any-append, list_any_at, list_any_none}
-use Rattle.std.proofs.lemmas.List.Sums.{fails_before_first, fold-append, fold_more}
-use Rattle.std.proofs.lemmas.Bool.{eq-eqb, le-leb, lt-leb, cases_Bool, eqb-true}
-use Rattle.std.proofs.lemmas.Bool.Decides.{nat_tests}
+use Rattle.std.proofs.lemmas.List.Folds.{list_any-append}
+use Rattle.std.proofs.lemmas.List.Sums.{fold-append, fold_more}
+use Rattle.std.proofs.Math.Bool.{or_assoc, or-false}
+use Rattle.std.proofs.lemmas.Bool.{le-leb, lt-leb, cases_Bool, eqb-true}
 use Rattle.faults.specs.declared.Fault.{Fault}
 use Rattle.faults.specs.declared.Refusal.TheVariants.{AccountNumber, NoAccountPlace}
 use Rattle.faults.specs.Refusals.{named, plain}
 use Rattle.ledger.specs.Limits.{admitted}
-use Rattle.balances.specs.declared.place.Place.{Place}
 use Rattle.balances.specs.declared.accounts.Accounts.{Accounts}
-use Rattle.balances.specs.Accounts.{Finds, Lists, listed}
-use Rattle.balances.specs.Lists.{First, add_new, different, has, list_fault, on_list}
-
--- ---- what a list has
-
-pub has_first : (xs : List ℕ) (a i : ℕ) → First xs a i → has xs a ≡ true
-has_first xs a i p = list_any_at (λ x. eqb x a) xs i 0 p.below (eq-eqb _ a p.here)
-
--- an account that stands at no place
-pub no_place : (xs : List ℕ) (a : ℕ) → position (λ x. eqb x a) xs ≡ None → has xs a ≡ false
-no_place xs a e =
-    let n : length xs ≤ position_or_len (λ x. eqb x a) xs = past in
-    list_any_none (λ x. eqb x a) xs (λ k d h. fails_before_first (λ x. eqb x a) xs k d (omega arith))
-  where
-    past : length xs ≤ position_or_len (λ x. eqb x a) xs
-    past = elim (cases_Bool (ltb (position_or_len (λ x. eqb x a) xs) (length xs))) [
-      | inl t ↦ (let s : Some (position_or_len (λ x. eqb x a) xs) ≡ None = rw t at e in absurd cc)
-      | inr t ↦ grind (arith, nat_tests)
-    ]
-
-pub found_test : (xs : List ℕ) (a : ℕ) (o : Option Place) → Finds xs a o → is_some o ≡ has xs a
-found_test xs a (Some p) f = sym (has_first xs a p.index f)
-found_test xs a None f = sym f
+use Rattle.balances.specs.Accounts.{Lists, listed}
+use Rattle.balances.specs.Lists.{add_new, different, has, list_fault, on_list}
 
 -- ---- the different accounts
 
@@ -46,9 +24,6 @@ grows (y ∷ ys) seen = elim (cases_Bool (has seen y)) [
   | inr e ↦ (let r = grows ys (seen ++ y ∷ []) in (y ∷ r.0, simp e (r.1 ∙ append_assoc seen (y ∷ []) r.0)))
 ]
 
-pub different_more : (xs : List ℕ) (i : ℕ) → different xs ≡ fold add_new (different (take i xs)) (drop i xs)
-different_more xs i = ap different (sym (take-append-drop i xs)) ∙ fold-append add_new [] (take i xs) (drop i xs)
-
 pub step : (xs : List ℕ) (i : ℕ) → i < length xs → different (take (i + 1) xs) ≡ add_new (different (take i xs)) (get_or xs i 0)
 step xs i h = fold_more add_new [] xs i 0 h
 
@@ -57,31 +32,23 @@ pub sixty_fifth : (xs s : List ℕ) (i a : ℕ) → i < length xs → get_or xs 
 sixty_fifth xs s i a h at d new n =
     let e : different (take (i + 1) xs) ≡ s ++ a ∷ [] = step xs i h ∙ rw (at, d, new) in
     let g = grows (drop (i + 1) xs) (s ++ a ∷ []) in
-    let w : different xs ≡ s ++ (a ∷ g.0) = different_more xs (i + 1) ∙ ap (λ t. fold add_new t (drop (i + 1) xs)) e ∙ g.1 ∙ append_assoc s (a ∷ []) g.0 in
+    let w : different xs ≡ s ++ (a ∷ g.0) = ap different (sym (take-append-drop (i + 1) xs)) ∙ fold-append add_new [] (take (i + 1) xs) (drop (i + 1) xs) ∙ ap (λ t. fold add_new t (drop (i + 1) xs)) e ∙ g.1 ∙ append_assoc s (a ∷ []) g.0 in
     (rw w (rw (length-append s (a ∷ g.0)) (omega arith)), ap (λ t. get_or t 64 0) w ∙ get_or_at s a g.0 0 64 n)
 
 -- the different accounts are those of the list
-or_false : (p : Bool) → (p || false) ≡ p
-or_false true = refl
-or_false false = refl
-
-or_assoc : (p q r : Bool) → (p || (q || r)) ≡ ((p || q) || r)
-or_assoc true q r = refl
-or_assoc false q r = refl
-
 has-add : (seen : List ℕ) (x a : ℕ) → has (add_new seen x) a ≡ (has seen a || eqb x a)
 has-add seen x a = elim (cases_Bool (has seen x)) [
   | inl e ↦ rw e (elim (cases_Bool (eqb x a)) [
     | inl t ↦ (let k : has seen a ≡ true = ap (has seen) (sym (eqb-true x a t)) ∙ e in simp (k, t))
-    | inr t ↦ simp t (sym (or_false (has seen a)))
+    | inr t ↦ simp t (sym (or-false (has seen a)))
   ])
-  | inr e ↦ rw e (list_any-append (λ y. eqb y a) seen (x ∷ []) ∙ ap (λ b. has seen a || b) (or_false (eqb x a)))
+  | inr e ↦ rw e (list_any-append (λ y. eqb y a) seen (x ∷ []) ∙ ap (λ b. has seen a || b) (or-false (eqb x a)))
 ]
 
 has_folded : (xs seen : List ℕ) (a : ℕ) → has (fold add_new seen xs) a ≡ (has seen a || has xs a)
-has_folded [] seen a = sym (or_false (has seen a))
+has_folded [] seen a = sym (or-false (has seen a))
 has_folded (x ∷ xs) seen a =
-    has_folded xs (add_new seen x) a ∙ ap (λ b. b || has xs a) (has-add seen x a) ∙ sym (or_assoc (has seen a) (eqb x a) (has xs a))
+    has_folded xs (add_new seen x) a ∙ ap (λ b. b || has xs a) (has-add seen x a) ∙ or_assoc (has seen a) (eqb x a) (has xs a)
 
 -- ---- refusals of a list
 

@@ -1,5 +1,5 @@
 -- A list of accounts: which it has, and when it is refused.
-use Rattle.std.specs.Prelude.{◌≡◌, ℕ, ◌<◌, Bool, false, cond, List, [], ◌∷◌, ◌++◌, length, Some, None, Ok, Err, fold, Option, Result, ◌==◌, ◌≢◌, nat_le, slice_index, slice_index_or}
+use Rattle.std.specs.Prelude.{◌≡◌, ℕ, Bool, false, cond, List, [], ◌∷◌, ◌++◌, length, Some, None, Ok, Err, fold, Option, Result, ◌==◌, nat_le, slice_index}
 use Rattle.std.specs.List.{list_all, list_any}
 use Rattle.faults.specs.declared.Fault.{Fault}
 use Rattle.faults.specs.declared.Refusal.TheVariants.{AccountNumber, NoAccountPlace}
@@ -34,12 +34,6 @@ unless (Some fault) b = false
 
 abbrev pub on_list : List ℕ → ℕ → Bool
 on_list xs a = unless (list_fault xs) (has xs a)
-
--- i is the first place of an account
-pub record First (xs : List ℕ) (a i : ℕ) : Type 0 where
-  pub below : i < length xs
-  pub here : slice_index_or xs i 0 ≡ a
-  pub earlier : (k : ℕ) → k < i → slice_index xs k ≢ a
 
 -- an account is added to xs, or finds no place
 abbrev pub Adds : {U : Type 0} → List ℕ → ℕ → Result U Fault → List ℕ → Type 0

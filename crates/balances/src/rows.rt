@@ -1,15 +1,17 @@
-ghost use Rattle.std.specs.Prelude.{◌≤◌, length};
-ghost use Rattle.balances.specs.Places.{places};
-
-use crate::accounts::Accounts;
 use crate::place::PLACES;
+use arrayvec::ArrayVec;
 
 pub mod lending;
+
+// An account, and what a table keeps of it.
+#[derive(Clone, Copy, Default)]
+pub struct Row<R> {
+    account: u32,
+    value: R,
+}
 
 // A table with one row for each of its accounts.
 #[derive(Drop)]
 pub struct Rows<R> {
-    accounts: Accounts,
-    rows: [R; PLACES],
-    ghost ok: { length accounts.numbers.items ≤ places },
+    rows: ArrayVec<Row<R>, PLACES>,
 }

@@ -1,5 +1,4 @@
 ghost use Rattle.std.specs.Prelude.{◌≡◌};
-ghost use Rattle.balances.specs.Accounts.{listed};
 ghost use Rattle.balances.specs.Sound.{table_sound};
 ghost use Rattle.balances.specs.Table.{NewTable, table_balances};
 ghost use Rattle.ledger.specs.Meaning.{widest};
@@ -23,22 +22,22 @@ const CAPACITY: u64 = 64;
 impl BalanceTable {
     // A table of the accounts of a list, with balances of 0. A refused list makes a table that knows none.
     pub fn new(list: &[u32]) -> BalanceTable
-        ensures { NewTable list.now (table_balances (listed result.rows.accounts) result.rows.rows) }
+        ensures { NewTable list.now (table_balances result.rows.rows.items) }
     {
         BalanceTable {
-            rows: Rows::new(list, Balance { value: 0 }),
+            rows: Rows::new(list, Balance::default()),
         }
     }
 }
 
 impl BalanceReader for BalanceTable {
-    ghost balances = { λ s. table_balances (listed s.rows.accounts) s.rows.rows };
+    ghost balances = { λ s. table_balances s.rows.rows.items };
 
-    ghost sound = { table_sound (λ s. listed s.rows.accounts) (λ s. s.rows.rows) };
+    ghost sound = { table_sound (λ s. s.rows.rows.items) };
 
     fn balance(&self, account: u32) -> Option<i64> {
-        let place = self.rows.place(account)?;
-        Some(self.rows.at(place).value)
+        let balance = self.rows.find(account)?;
+        Some(balance.value)
     }
 }
 
@@ -52,13 +51,13 @@ impl CashLedger for BalanceTable {
     }
 
     fn pay(&mut self, account: u32, amount: i64) -> Result<(), Fault> {
-        let place = self
+        let terms = self.terms();
+        let balance = self
             .rows
-            .place(account)
+            .find_mut(account)
             .ok_or(Refusal::UnknownAccount.at(account))?;
-        let balance = self.rows.at(place).value;
-        self.terms().check(account, balance, amount)?;
-        self.rows.row(place).value = balance + amount;
+        terms.check(account, balance.value, amount)?;
+        balance.value += amount;
         Ok(())
     }
 }

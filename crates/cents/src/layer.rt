@@ -1,36 +1,23 @@
 ghost use Rattle.std.specs.Prelude.{◌≡◌, ◌≤◌, unsigned_abs};
-ghost use Rattle.balances.specs.Accounts.{listed};
 ghost use Rattle.ledger.specs.Meaning.{meaning};
 ghost use Rattle.ledger.specs.Payments.{Pays};
-ghost use Rattle.cents.specs.Layer.{NewLayer, layer, layer_balances, layer_terms};
-ghost use Rattle.cents.specs.Sends.{Finds, PaysCents, Sends};
+ghost use Rattle.cents.specs.Layer.{NewLayer, layer, layer_balances, layer_terms, over};
+ghost use Rattle.cents.specs.Sends.{PaysCents, Sends};
 ghost use Rattle.cents.specs.Sound.{layer_bounded, layer_sound};
 
 use crate::rest::Rest;
-use balances::place::Place;
 use balances::rows::Rows;
 use faults::{Fault, Refusal};
 use ledger::limits::HIGHEST_BALANCE;
 use ledger::terms::Terms;
 use ledger::traits::{BalanceReader, CashLedger};
-use prices::cents::split;
-
-// Ten-thousandths of a dollar in a cent.
-const CENT: i64 = 100;
+use prices::cents::{CENT, split};
 
 // A ledger below, which is paid whole cents, and the rests of the layer's accounts.
 #[derive(Drop)]
 pub struct Cents<L: CashLedger> {
     below: L,
     rests: Rows<Rest>,
-}
-
-// An account that the layer knows: where its rest stands, the rest and the balance.
-#[derive(Clone, Copy)]
-struct Found {
-    place: Place,
-    rest: u8,
-    balance: i64,
 }
 
 // Pays whole cents, unless there are none.
@@ -44,15 +31,26 @@ fn pay_cents<L: CashLedger>(ledger: &mut L, account: u32, cents: i64) -> Result<
     ledger.pay(account, cents * CENT)
 }
 
+// The balance of an account with a rest, if the layer knows the account then.
+fn balance_over<L: CashLedger>(below: &L, account: u32, rest: Rest) -> Option<i64>
+    ensures { result ≡ over (meaning L.BalanceReader.balances L.CashLedger.terms below.now) account rest }
+{
+    if below.lowest_balance() + CENT > HIGHEST_BALANCE {
+        return None;
+    }
+    let balance = below.balance(account)? + i64::from(rest.value);
+    (balance <= HIGHEST_BALANCE).then_some(balance)
+}
+
 impl<L: CashLedger> Cents<L> {
     // A layer over the accounts of a list, with rests of 0. A refused list makes a layer that knows none.
     pub fn new(below: L, list: &[u32]) -> Cents<L>
         ensures kept { result.below ≡ below }
-        ensures layer { NewLayer (meaning L.BalanceReader.balances L.CashLedger.terms below) list.now (layer (meaning L.BalanceReader.balances L.CashLedger.terms result.below) (listed result.rests.accounts) result.rests.rows) }
+        ensures layer { NewLayer (meaning L.BalanceReader.balances L.CashLedger.terms below) list.now (layer (meaning L.BalanceReader.balances L.CashLedger.terms result.below) result.rests.rows.items) }
     {
         Cents {
             below,
-            rests: Rows::new(list, Rest { value: 0 }),
+            rests: Rows::new(list, Rest::default()),
         }
     }
 
@@ -62,35 +60,16 @@ impl<L: CashLedger> Cents<L> {
     {
         &self.below
     }
-
-    fn find(&self, account: u32) -> Option<Found>
-        ensures { Finds (meaning L.BalanceReader.balances L.CashLedger.terms self.now.below) (listed self.now.rests.accounts) self.now.rests.rows account result }
-    {
-        let place = self.rests.place(account)?;
-        if self.below.lowest_balance() + CENT > HIGHEST_BALANCE {
-            return None;
-        }
-        let rest = self.rests.at(place).value;
-        let balance = self.below.balance(account)? + i64::from(rest);
-        if balance > HIGHEST_BALANCE {
-            return None;
-        }
-        Some(Found {
-            place,
-            rest,
-            balance,
-        })
-    }
 }
 
 impl<L: CashLedger> BalanceReader for Cents<L> {
-    ghost balances = { λ s. layer_balances (meaning L.BalanceReader.balances L.CashLedger.terms s.below) (listed s.rests.accounts) s.rests.rows };
+    ghost balances = { λ s. layer_balances (meaning L.BalanceReader.balances L.CashLedger.terms s.below) s.rests.rows.items };
 
-    ghost sound = { layer_sound (λ s. meaning L.BalanceReader.balances L.CashLedger.terms s.below) (λ s. listed s.rests.accounts) (λ s. s.rests.rows) };
+    ghost sound = { layer_sound (λ s. meaning L.BalanceReader.balances L.CashLedger.terms s.below) (λ s. s.rests.rows.items) };
 
     fn balance(&self, account: u32) -> Option<i64> {
-        let found = self.find(account)?;
-        Some(found.balance)
+        let rest = self.rests.find(account)?;
+        balance_over(&self.below, account, *rest)
     }
 }
 
@@ -109,16 +88,17 @@ impl<L: CashLedger> CashLedger for Cents<L> {
 
     // The amount and the old rest together are split: the whole cents go below, and the rest stays here.
     fn pay(&mut self, account: u32, amount: i64) -> Result<(), Fault>
-        ensures pays { Pays (layer (meaning L.BalanceReader.balances L.CashLedger.terms self.old.below) (listed self.old.rests.accounts) self.old.rests.rows) account amount result (layer (meaning L.BalanceReader.balances L.CashLedger.terms self.new.below) (listed self.new.rests.accounts) self.new.rests.rows) }
-        ensures sends { Sends (meaning L.BalanceReader.balances L.CashLedger.terms self.old.below) (listed self.old.rests.accounts) self.old.rests.rows account amount result (meaning L.BalanceReader.balances L.CashLedger.terms self.new.below) (listed self.new.rests.accounts) self.new.rests.rows }
+        ensures pays { Pays (layer (meaning L.BalanceReader.balances L.CashLedger.terms self.old.below) self.old.rests.rows.items) account amount result (layer (meaning L.BalanceReader.balances L.CashLedger.terms self.new.below) self.new.rests.rows.items) }
+        ensures sends { Sends (meaning L.BalanceReader.balances L.CashLedger.terms self.old.below) self.old.rests.rows.items account amount result (meaning L.BalanceReader.balances L.CashLedger.terms self.new.below) self.new.rests.rows.items }
     {
-        let found = self
-            .find(account)
-            .ok_or(Refusal::UnknownAccount.at(account))?;
-        self.terms().check(account, found.balance, amount)?;
-        let (cents, rest) = split(amount + i64::from(found.rest));
+        let terms = self.terms();
+        let unknown = Refusal::UnknownAccount.at(account);
+        let rest = self.rests.find_mut(account).ok_or(unknown)?;
+        let balance = balance_over(&self.below, account, *rest).ok_or(unknown)?;
+        terms.check(account, balance, amount)?;
+        let (cents, left) = split(amount + i64::from(rest.value));
         pay_cents(&mut self.below, account, cents)?;
-        self.rests.row(found.place).value = rest;
+        rest.value = left;
         Ok(())
     }
 }

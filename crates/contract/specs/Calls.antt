@@ -1,4 +1,5 @@
--- The name of each call.
+-- The name of each call, and the word for it.
+use Rattle.std.specs.Prelude.{ℕ, List, codes}
 use Rattle.contract.specs.declared.calls.Call.{Call}
 use Rattle.contract.specs.declared.calls.Call.TheVariants as call
 use Rattle.contract.specs.declared.calls.CallName.{CallName}
@@ -12,3 +13,12 @@ name_of (call.Bust ticket) = name.Bust
 name_of (call.Close value bid offer) = name.Close
 name_of (call.Accrue rate) = name.Accrue
 name_of (call.Settle value) = name.Settle
+
+abbrev pub name_word : CallName → List ℕ
+name_word name.List = codes "list"
+name_word name.Open = codes "open"
+name_word name.Trade = codes "trade"
+name_word name.Bust = codes "bust"
+name_word name.Close = codes "close"
+name_word name.Accrue = codes "accrue"
+name_word name.Settle = codes "settle"

@@ -1,4 +1,5 @@
 pub mod Calls
 pub mod Formulas
+pub mod Inputs
 pub mod Sound
 pub mod Step

@@ -109,6 +109,10 @@ abbrev pub Ends : Option Fault → Figures → Call → Result Answer Fault → 
 Ends None f c r f' = (r ≡ Ok (answer f c)) × (f' ≡ figures_after f c)
 Ends (Some fault) f c r f' = (r ≡ Err fault) × (f' ≡ f)
 
+-- a call whose own figures passed their checks
+abbrev pub Serves : Figures → Call → Result Answer Fault → Figures → Type 0
+Serves f c r f' = Ends (first_fault (state_checks f c)) f c r f'
+
 -- a refusal names the call and leaves the contract as it was
 abbrev pub StepBy : Option Fault → Figures → Call → Result Answer ContractFault → Figures → Type 0
 StepBy None f c r f' = (r ≡ Ok (answer f c)) × (f' ≡ figures_after f c)

@@ -2,7 +2,7 @@
 use crate::calls::CallName;
 use faults::Fault;
 
-#[derive(Clone, Copy)]
+#[derive(Clone, Copy, PartialEq, Eq, Debug)]
 pub struct ContractFault {
     pub call: CallName,
     pub fault: Fault,

@@ -1,8 +1,10 @@
 // The calls of a contract, each with its own figures, and what an accepted call answers.
-ghost use Rattle.std.specs.Prelude.{◌≡◌};
-ghost use Rattle.contract.specs.Calls.{name_of};
+ghost use Rattle.std.specs.Prelude.{◌≡◌, Some};
+ghost use Rattle.contract.specs.Calls.{name_of, name_word};
 
-#[derive(Clone, Copy)]
+use std::fmt;
+
+#[derive(Clone, Copy, PartialEq, Eq, Debug)]
 pub enum Call {
     List {
         expected: u32,
@@ -34,7 +36,7 @@ pub enum Call {
     },
 }
 
-#[derive(Clone, Copy)]
+#[derive(Clone, Copy, PartialEq, Eq, Debug)]
 pub enum CallName {
     List,
     Open,
@@ -45,7 +47,7 @@ pub enum CallName {
     Settle,
 }
 
-#[derive(Clone, Copy)]
+#[derive(Clone, Copy, PartialEq, Eq, Debug)]
 pub enum Answer {
     Done,
 }
@@ -63,5 +65,22 @@ impl Call {
             Call::Accrue { .. } => CallName::Accrue,
             Call::Settle { .. } => CallName::Settle,
         }
+    }
+}
+
+// The word by which a sheet names the call.
+impl fmt::Display for CallName {
+    ghost output = { λ name. Some (name_word name) };
+
+    fn fmt<W: fmt::Write>(&self, f: &mut fmt::Formatter<W>) -> fmt::Result {
+        f.write_str(match *self {
+            CallName::List => "list",
+            CallName::Open => "open",
+            CallName::Trade => "trade",
+            CallName::Bust => "bust",
+            CallName::Close => "close",
+            CallName::Accrue => "accrue",
+            CallName::Settle => "settle",
+        })
     }
 }

@@ -1,5 +1,5 @@
 // The plain figures that a contract keeps between calls.
-#[derive(Clone, Copy)]
+#[derive(Clone, Copy, PartialEq, Eq, Debug)]
 pub enum Phase {
     Unlisted,
     Ready,
@@ -8,14 +8,14 @@ pub enum Phase {
 }
 
 // The index values kept: the last of them, and the returns between them.
-#[derive(Clone, Copy)]
+#[derive(Clone, Copy, PartialEq, Eq, Debug)]
 pub struct IndexRecord {
     pub last: Option<u32>,
     pub returns: u32,
     pub sum_of_squares: u64,
 }
 
-#[derive(Clone, Copy)]
+#[derive(Clone, Copy, PartialEq, Eq, Debug)]
 pub struct Figures {
     pub phase: Phase,
     // Ne, the number of expected values.

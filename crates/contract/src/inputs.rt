@@ -1,84 +1,116 @@
-// What is checked of a call's own figures, whatever the phase.
-ghost use Rattle.std.specs.Prelude.{◌≡◌};
-ghost use Rattle.faults.specs.Checks.{first_fault, verdict};
-ghost use Rattle.contract.specs.Step.{input_checks, value_checks};
+// A call's own figures, checked whatever the phase: a checked call holds none past its limits.
+ghost use Rattle.std.specs.Prelude.{◌≡◌, Some, None, Ok, Err};
+ghost use Rattle.faults.specs.Checks.{first_fault};
+ghost use Rattle.faults.specs.Refusals.{plain as plain_fault};
+ghost use Rattle.contract.specs.Inputs.{Checks};
+ghost use Rattle.contract.specs.Step.{value_checks};
 
 use crate::calls::Call;
-use faults::{Fault, Refusal};
+use faults::{Fault, Refusal, require};
 use quantities::{
     AccountNumber, DiscountFactor, ExpectedValues, IndexValue, Rate, Strike, Tick, Vega,
 };
 
+#[derive(Clone, Copy, PartialEq, Eq, Debug)]
+pub(crate) enum Checked {
+    List {
+        expected: ExpectedValues,
+        strike: Strike,
+    },
+    Open {
+        discount: DiscountFactor,
+    },
+    Trade {
+        buyer: AccountNumber,
+        seller: AccountNumber,
+        vega: Vega,
+        tick: Tick,
+    },
+    Bust {
+        ticket: u32,
+    },
+    Close {
+        value: Option<IndexValue>,
+        bid: Tick,
+        offer: Tick,
+    },
+    Accrue {
+        rate: Rate,
+    },
+    Settle {
+        value: IndexValue,
+    },
+}
+
 impl Call {
-    // The first limit that the call's own figures break.
-    pub(crate) fn check(self) -> Result<(), Fault>
-        ensures { result ≡ verdict tt (first_fault (input_checks self)) }
+    // The call with its figures in their types, or the first limit that they break.
+    pub(crate) fn check(self) -> Result<Checked, Fault>
+        ensures { Checks self result }
     {
-        match self {
-            Call::List { expected, strike } => {
-                ExpectedValues::of(expected)?;
-                Strike::of(strike)?;
-            }
-            Call::Open { discount } => {
-                DiscountFactor::of(discount)?;
-            }
+        Ok(match self {
+            Call::List { expected, strike } => Checked::List {
+                expected: ExpectedValues::of(expected)?,
+                strike: Strike::of(strike)?,
+            },
+            Call::Open { discount } => Checked::Open {
+                discount: DiscountFactor::of(discount)?,
+            },
             Call::Trade {
                 buyer,
                 seller,
                 vega,
                 tick,
             } => check_trade(buyer, seller, vega, tick)?,
-            Call::Bust { .. } => {}
+            Call::Bust { ticket } => Checked::Bust { ticket },
             Call::Close { value, bid, offer } => check_close(value, bid, offer)?,
-            Call::Accrue { rate } => {
-                Rate::of(rate)?;
-            }
+            Call::Accrue { rate } => Checked::Accrue {
+                rate: Rate::of(rate)?,
+            },
             Call::Settle { value } => check_settle(value)?,
-        }
-        Ok(())
+        })
     }
 }
 
-fn check_trade(buyer: u32, seller: u32, vega: u32, tick: u32) -> Result<(), Fault>
-    ensures { result ≡ verdict tt (first_fault (input_checks (Call.Trade buyer seller vega tick))) }
+fn check_trade(buyer: u32, seller: u32, vega: u32, tick: u32) -> Result<Checked, Fault>
+    ensures { Checks (Call.Trade buyer seller vega tick) result }
 {
-    AccountNumber::of(buyer)?;
-    AccountNumber::of(seller)?;
-    if buyer == seller {
-        return Err(Refusal::SameAccount.into());
-    }
-    Vega::of(vega)?;
-    Tick::of(tick)?;
-    Ok(())
+    let buyer = AccountNumber::of(buyer)?;
+    let seller = AccountNumber::of(seller)?;
+    require(buyer != seller, Refusal::SameAccount)?;
+    Ok(Checked::Trade {
+        buyer,
+        seller,
+        vega: Vega::of(vega)?,
+        tick: Tick::of(tick)?,
+    })
 }
 
-fn check_close(value: Option<u32>, bid: u32, offer: u32) -> Result<(), Fault>
-    ensures { result ≡ verdict tt (first_fault (input_checks (Call.Close value bid offer))) }
+fn check_close(value: Option<u32>, bid: u32, offer: u32) -> Result<Checked, Fault>
+    ensures { Checks (Call.Close value bid offer) result }
 {
-    Tick::of(bid)?;
-    Tick::of(offer)?;
-    if bid > offer {
-        return Err(Refusal::BidAboveOffer.into());
-    }
-    check_value(value)
+    let bid = Tick::of(bid)?;
+    let offer = Tick::of(offer)?;
+    require(bid <= offer, Refusal::BidAboveOffer)?;
+    Ok(Checked::Close {
+        value: check_value(value)?,
+        bid,
+        offer,
+    })
 }
 
-fn check_settle(value: Option<u32>) -> Result<(), Fault>
-    ensures { result ≡ verdict tt (first_fault (input_checks (Call.Settle value))) }
+fn check_settle(value: Option<u32>) -> Result<Checked, Fault>
+    ensures { Checks (Call.Settle value) result }
 {
-    check_value(value)?;
-    if value.is_none() {
-        return Err(Refusal::DisruptedSettlement.into());
-    }
-    Ok(())
+    let value = check_value(value)?.ok_or(Refusal::DisruptedSettlement)?;
+    Ok(Checked::Settle { value })
 }
 
 // A disrupted day has no value to check.
-fn check_value(value: Option<u32>) -> Result<(), Fault>
-    ensures { result ≡ verdict tt (first_fault (value_checks value)) }
+fn check_value(value: Option<u32>) -> Result<Option<IndexValue>, Refusal>
+    ensures { elim result [ Ok x ↦ (first_fault (value_checks value) ≡ None) × elim x [ Some v ↦ value ≡ Some v.value | None ↦ value ≡ None ] | Err refusal ↦ first_fault (value_checks value) ≡ Some (plain_fault refusal) ] }
 {
-    if let Some(value) = value {
-        IndexValue::of(value)?;
+    match value {
+        Some(value) => Ok(Some(IndexValue::of(value)?)),
+        None => Ok(None),
     }
-    Ok(())
 }

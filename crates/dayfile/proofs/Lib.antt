@@ -1,3 +1,2 @@
-mod Membership
-mod Notes
+mod Printing
 mod Turns

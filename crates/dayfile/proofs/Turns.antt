@@ -3,7 +3,7 @@ use Rattle.std.proofs.Common.{◌≡◌, ℕ, ◌+◌, ◌/◌, ◌<◌, ◌≤�
 use Rattle.dayfile.specs.declared.file_fault.FileFault.{FileFault}
 use Rattle.dayfile.specs.declared.reader.Item.{Item}
 use Rattle.dayfile.specs.declared.reader.Placed.{Placed}
-use Rattle.dayfile.specs.declared.reader.Read.{Read}
+use Rattle.dayfile.specs.declared.words.Read.{Read}
 use Rattle.dayfile.specs.Runs.{State, Unchanged, Runs, begin, onward, Acts, Serves, Stops}
 use Rattle.dayfile.specs.Words.{word, kind, starts, of_single, of_double, item_at, placed, next_at, moved, place_after}
 

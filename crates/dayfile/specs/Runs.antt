@@ -5,7 +5,10 @@ use Rattle.contract.specs.declared.calls.Call.{Call}
 use Rattle.contract.specs.declared.calls.Call.TheVariants as call
 use Rattle.contract.specs.declared.figures.Figures.{Figures}
 use Rattle.contract.specs.Step.{Step}
-use Rattle.dayfile.specs.Accounts.{account_checks, noted}
+use Rattle.balances.specs.Accounts.{listed}
+use Rattle.balances.specs.Lists.{add_new}
+use Rattle.dayfile.specs.Accounts.{account_checks}
+use Rattle.dayfile.specs.declared.runs.Day.{Day}
 use Rattle.dayfile.specs.declared.file_fault.Cause.{Cause}
 use Rattle.dayfile.specs.declared.file_fault.Cause.TheVariants as cause
 use Rattle.dayfile.specs.declared.file_fault.FileFault.{FileFault}
@@ -14,7 +17,7 @@ use Rattle.dayfile.specs.declared.lines.Line.TheVariants.{Close}
 use Rattle.dayfile.specs.declared.reader.Item.{Item}
 use Rattle.dayfile.specs.declared.reader.Item.TheVariants as item
 use Rattle.dayfile.specs.declared.reader.Placed.{Placed}
-use Rattle.dayfile.specs.declared.reader.Read.{Read}
+use Rattle.dayfile.specs.declared.words.Read.{Read}
 use Rattle.dayfile.specs.Words.{item_at, of_length, wrong_length}
 use Rattle.faults.specs.Checks.{first_fault}
 use Rattle.faults.specs.declared.Fault.{Fault}
@@ -28,6 +31,9 @@ pub record State : Type 0 where
 
 abbrev pub state : Figures → List ℕ → List Line → State
 state f accounts lines = record { figures = f; accounts = accounts; lines = lines }
+
+abbrev pub state_of : Day → State
+state_of d = state d.contract.figures (listed d.accounts) d.lines.items
 
 abbrev pub Unchanged : State → State → Type 0
 Unchanged s s' = (s'.figures ≡ s.figures) × (s'.accounts ≡ s.accounts) × (s'.lines ≡ s.lines)
@@ -46,7 +52,7 @@ line_of (call.Settle value) f = None
 
 -- an account is noted, unless a check fails
 abbrev pub Notes : Option Fault → State → ℕ → Result Unit Cause → State → Type 0
-Notes None s account r s' = (r ≡ Ok tt) × (s'.figures ≡ s.figures) × (s'.accounts ≡ noted s.accounts account) × (s'.lines ≡ s.lines)
+Notes None s account r s' = (r ≡ Ok tt) × (s'.figures ≡ s.figures) × (s'.accounts ≡ add_new s.accounts account) × (s'.lines ≡ s.lines)
 Notes (Some fault) s account r s' = (r ≡ Err (cause.Account fault)) × Unchanged s s'
 
 -- a call is the contract's step; an accepted one adds its line

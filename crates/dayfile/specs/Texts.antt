@@ -1,7 +1,7 @@
 -- The text of figures, lines and refusals, as lists of bytes.
-use Rattle.std.specs.Prelude.{ℕ, ◌/◌, ◌%◌, cond, List, [], ◌++◌, ℤ, pos, negsuc, Some, None, codes, decimal, Option, nat_lt, unsigned_abs}
-use Rattle.contract.specs.declared.calls.CallName.{CallName}
-use Rattle.contract.specs.declared.calls.CallName.TheVariants as name
+use Rattle.std.specs.Prelude.{ℕ, ◌-◌, ◌/◌, ◌%◌, List, [], ◌++◌, length, replicate, ℤ, pos, negsuc, Some, None, codes, decimal, Option, unsigned_abs}
+use Rattle.std.specs.Option.{unwrap_or}
+use Rattle.contract.specs.Calls.{name_word}
 use Rattle.dayfile.specs.declared.file_fault.Cause.{Cause}
 use Rattle.dayfile.specs.declared.file_fault.Cause.TheVariants.{File, Account, Call, Memory}
 use Rattle.dayfile.specs.declared.file_fault.FileFault.{FileFault}
@@ -15,37 +15,24 @@ abbrev pub sign : ℤ → List ℕ
 sign (pos n) = []
 sign (negsuc n) = codes "-"
 
--- the decimal point, and the zeros that fill a part up to four digits
-abbrev pub point_of_four : ℕ → List ℕ
-point_of_four part = cond (nat_lt part 10) (codes ".000") (cond (nat_lt part 100) (codes ".00") (cond (nat_lt part 1000) (codes ".0") (codes ".")))
+-- n with zeros before it, up to so many digits
+abbrev pub zero_padded : ℕ → ℕ → List ℕ
+zero_padded digits n = replicate (digits - length (decimal n)) 48 ++ decimal n
 
--- the same, up to eight digits
-abbrev pub point_of_eight : ℕ → List ℕ
-point_of_eight part =
-    cond (nat_lt part 10) (codes ".0000000")
-    (cond (nat_lt part 100) (codes ".000000")
-    (cond (nat_lt part 1000) (codes ".00000")
-    (cond (nat_lt part 10000) (codes ".0000") (point_of_four (part / 10000)))))
+-- a number of parts, of which `unit` make a whole
+abbrev pub decimal_text : ℕ → ℕ → ℤ → List ℕ
+decimal_text unit decimals z = sign z ++ (decimal (unsigned_abs z / unit) ++ (codes "." ++ zero_padded decimals (unsigned_abs z % unit)))
 
 -- money and prices, from ten-thousandths: four decimals
 abbrev pub money : ℤ → List ℕ
-money z = sign z ++ (decimal (unsigned_abs z / 10000) ++ (point_of_four (unsigned_abs z % 10000) ++ decimal (unsigned_abs z % 10000)))
+money z = decimal_text 10000 4 z
 
 -- the accumulated return, from hundred-millionths: eight decimals
 abbrev pub accumulated : ℤ → List ℕ
-accumulated z = sign z ++ (decimal (unsigned_abs z / 100000000) ++ (point_of_eight (unsigned_abs z % 100000000) ++ decimal (unsigned_abs z % 100000000)))
+accumulated z = decimal_text 100000000 8 z
 
 abbrev pub line_text : Line → List ℕ
 line_text (Close day F A) = codes "C " ++ (decimal day ++ (codes " " ++ (money F ++ (codes " " ++ accumulated A))))
-
-abbrev pub name_word : CallName → List ℕ
-name_word name.List = codes "list"
-name_word name.Open = codes "open"
-name_word name.Trade = codes "trade"
-name_word name.Bust = codes "bust"
-name_word name.Close = codes "close"
-name_word name.Accrue = codes "accrue"
-name_word name.Settle = codes "settle"
 
 abbrev pub call_word : Cause → List ℕ
 call_word (File refusal) = codes "file"
@@ -55,7 +42,7 @@ call_word Memory = codes "memory"
 
 -- a refusal has its place, call, number and account; want of memory is no line of the sheet
 abbrev pub fault_words : ℕ → List ℕ → Option Fault → List ℕ
-fault_words place call (Some f) = codes "R " ++ (decimal place ++ (codes " " ++ (call ++ (codes " " ++ (decimal (number f.refusal) ++ (codes " " ++ decimal f.account))))))
+fault_words place call (Some f) = codes "R " ++ (decimal place ++ (codes " " ++ (call ++ (codes " " ++ (decimal (number f.refusal) ++ (codes " " ++ decimal (unwrap_or f.account 0)))))))
 fault_words place call None = codes "no " ++ (call ++ (codes " at " ++ decimal place))
 
 abbrev pub fault_text : FileFault → List ℕ

@@ -1,12 +1,15 @@
 -- How the bytes of a day file stand for calls.
-use Rattle.std.specs.Prelude.{◌≡◌, ℕ, ◌+◌, ◌*◌, ◌/◌, ◌%◌, ◌^◌, Bool, true, false, cond, ◌&&◌, List, length, Some, None, Ok, Err, Option, Result, ◌==◌, nat_le, nat_lt, slice_index}
+use Rattle.std.specs.Prelude.{◌≡◌, ℕ, ◌+◌, ◌*◌, ◌/◌, ◌%◌, ◌^◌, ◌<◌, ◌⊎◌, Bool, true, false, cond, ◌&&◌, List, length, Some, None, Ok, Err, Option, Result, ◌==◌, nat_le, nat_lt, slice_index}
 use Rattle.contract.specs.declared.calls.Call.TheVariants as call
 use Rattle.dayfile.specs.declared.file_fault.Cause.TheVariants.{File}
 use Rattle.dayfile.specs.declared.file_fault.FileFault.{FileFault}
+use Rattle.dayfile.specs.declared.kind.Kind.{Kind}
+use Rattle.dayfile.specs.declared.kind.Kind.TheVariants.{ExpectedValues, Strike, DiscountFactor, Accounts, Size, Ticket, IndexValue, Quotes, Rate, FinalValue, AccountNumber}
+use Rattle.dayfile.specs.declared.kind.NoKind.{NoKind}
 use Rattle.dayfile.specs.declared.reader.Item.{Item}
 use Rattle.dayfile.specs.declared.reader.Item.TheVariants.{Account, Call}
 use Rattle.dayfile.specs.declared.reader.Placed.{Placed}
-use Rattle.dayfile.specs.declared.reader.Read.{Read}
+use Rattle.dayfile.specs.declared.words.Read.{Read}
 use Rattle.dayfile.specs.declared.reader.Reader.{Reader}
 use Rattle.dayfile.specs.Limits.{longest_file}
 use Rattle.faults.specs.declared.Refusal.TheVariants.{WrongWord, FileLength}
@@ -27,6 +30,25 @@ body w = w % 2 ^ 28
 -- 0 stands for a disrupted day
 abbrev pub index_value : ℕ → Option ℕ
 index_value v = cond (v == 0) None (Some v)
+
+-- the numbers of the kinds
+abbrev pub number_of : Kind → ℕ
+number_of ExpectedValues = 1
+number_of Strike = 2
+number_of DiscountFactor = 3
+number_of Accounts = 4
+number_of Size = 5
+number_of Ticket = 6
+number_of IndexValue = 7
+number_of Quotes = 8
+number_of Rate = 9
+number_of FinalValue = 10
+number_of AccountNumber = 11
+
+-- the kind of a number, if it has one
+abbrev pub Names : ℕ → Result Kind NoKind → Type 0
+Names n (Ok k) = number_of k ≡ n
+Names n (Err e) = (n ≡ 0) ⊎ (11 < n)
 
 -- ---- items
 

@@ -7,7 +7,7 @@ use contract::ContractFault;
 use faults::{Fault, Refusal};
 use std::alloc::AllocFailed;
 
-#[derive(Clone, Copy)]
+#[derive(Clone, Copy, PartialEq, Eq, Debug)]
 pub enum Cause {
     // The file's length or a wrong word.
     File(Refusal),
@@ -20,7 +20,7 @@ pub enum Cause {
 }
 
 // The place of the word, or of the call's first word, and what is wrong there.
-#[derive(Clone, Copy)]
+#[derive(Clone, Copy, PartialEq, Eq, Debug)]
 pub struct FileFault {
     pub place: usize,
     pub cause: Cause,

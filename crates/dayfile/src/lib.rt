@@ -1,9 +1,9 @@
 // A day file: 32-bit big-endian words that say calls, the run over a whole file, and the sheet that it prints.
 #![tactic(auto)]
 
-pub mod account_list;
 mod accounts;
 pub mod file_fault;
+mod kind;
 pub mod limits;
 pub mod lines;
 pub mod reader;
@@ -11,9 +11,8 @@ mod runs;
 mod texts;
 mod words;
 
-pub use account_list::AccountList;
 pub use file_fault::{Cause, FileFault};
 pub use lines::Line;
 pub use reader::{Item, Placed, Reader};
-pub use runs::run;
-pub use texts::{Accumulated, Money};
+pub use runs::Day;
+pub use texts::{Accumulated, Decimal, Money};

@@ -2,6 +2,3 @@
 
 // The longest file that is read, in bytes.
 pub const LONGEST_FILE: usize = 65_536;
-
-// Places for different accounts.
-pub const MOST_ACCOUNTS: usize = 64;

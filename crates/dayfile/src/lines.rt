@@ -4,7 +4,7 @@ ghost use Rattle.dayfile.specs.Runs.{line_of};
 
 use contract::{Call, Figures};
 
-#[derive(Clone, Copy)]
+#[derive(Clone, Copy, PartialEq, Eq, Debug)]
 pub enum Line {
     // The day, counted from 0, the settlement price, and the accumulated return.
     Close {

@@ -1,14 +1,15 @@
 // Reading a day file from its first word to its last.
 ghost use Rattle.std.specs.Prelude.{◌≡◌, ◌/◌, ◌<◌, length};
-ghost use Rattle.dayfile.specs.Words.{wrong, item_at, next_at, place_after, Made};
+ghost use Rattle.dayfile.specs.Words.{item_at, next_at, place_after, Made};
 
 use crate::file_fault::{Cause, FileFault};
+use crate::kind::Kind;
 use crate::limits::LONGEST_FILE;
-use crate::words::{BODIES, one_word, two_words, word_at};
+use crate::words::{BODIES, Read, one_word, two_words, word_at, wrong_word};
 use contract::Call;
-use faults::Refusal;
+use faults::{Refusal, require};
 
-#[derive(Clone, Copy)]
+#[derive(Clone, Copy, PartialEq, Eq, Debug)]
 pub enum Item {
     // An account of the balance table.
     Account(u32),
@@ -16,26 +17,10 @@ pub enum Item {
 }
 
 // An item, and the place of its first word.
-#[derive(Clone, Copy)]
+#[derive(Clone, Copy, PartialEq, Eq, Debug)]
 pub struct Placed {
     pub place: usize,
     pub item: Item,
-}
-
-// An item, and how many words it takes.
-#[derive(Clone, Copy)]
-pub(crate) struct Read {
-    item: Item,
-    words: usize,
-}
-
-fn wrong_word(place: usize) -> FileFault
-    ensures { result ≡ wrong place }
-{
-    FileFault {
-        place,
-        cause: Cause::File(Refusal::WrongWord),
-    }
 }
 
 // What stands at a place of the file.
@@ -44,20 +29,16 @@ fn item_at(bytes: &[u8], place: usize) -> Result<Read, FileFault>
     ensures { result ≡ item_at bytes.now place }
 {
     let first = word_at(bytes, place);
-    let kind = first / BODIES;
-    let body = first % BODIES;
-    if kind != 1 && kind != 4 && kind != 7 {
-        return match one_word(kind, body) {
-            Some(item) => Ok(Read { item, words: 1 }),
-            None => Err(wrong_word(place)),
-        };
-    }
-    if place + 1 >= bytes.len() / 4 {
+    let Ok(kind) = Kind::try_from(first / BODIES) else {
         return Err(wrong_word(place));
-    }
-    match two_words(kind, body, word_at(bytes, place + 1)) {
-        Ok(item) => Ok(Read { item, words: 2 }),
-        Err(offset) => Err(wrong_word(place + offset)),
+    };
+    let body = first % BODIES;
+    match kind {
+        Kind::ExpectedValues | Kind::Accounts | Kind::IndexValue => {
+            require(place + 1 < bytes.len() / 4, wrong_word(place))?;
+            two_words(place, kind, body, word_at(bytes, place + 1))
+        }
+        _ => one_word(place, kind, body),
     }
 }
 
@@ -72,12 +53,14 @@ impl<'a> Reader<'a> {
     pub fn new(bytes: &'a [u8]) -> Result<Reader<'a>, FileFault>
         ensures { Made bytes.now result }
     {
-        if bytes.len() > LONGEST_FILE || bytes.len() % 4 != 0 {
-            return Err(FileFault {
-                place: 0,
-                cause: Cause::File(Refusal::FileLength),
-            });
-        }
+        let wrong_length = FileFault {
+            place: 0,
+            cause: Cause::File(Refusal::FileLength),
+        };
+        require(
+            bytes.len() <= LONGEST_FILE && bytes.len() % 4 == 0,
+            wrong_length,
+        )?;
         Ok(Reader { bytes, place: 0 })
     }
 

@@ -1,10 +1,10 @@
 // How the sheet writes money, accumulated returns, lines and refusals.
-ghost use Rattle.std.specs.Prelude.{◌≡◌, Some};
-ghost use Rattle.dayfile.specs.Texts.{sign, point_of_four, point_of_eight, money, accumulated, line_text, call_word, fault_text};
+ghost use Rattle.std.specs.Prelude.{◌≡◌, ◌<◌, Some};
+ghost use Rattle.dayfile.specs.Texts.{sign, decimal_text, line_text, call_word, fault_text};
 
 use crate::file_fault::{Cause, FileFault};
 use crate::lines::Line;
-use contract::CallName;
+use std::error::Error;
 use std::fmt;
 
 fn sign_of(value: i64) -> &'static str
@@ -13,69 +13,28 @@ fn sign_of(value: i64) -> &'static str
     if value < 0 { "-" } else { "" }
 }
 
-// The decimal point, and the zeros that fill a part up to four digits.
-fn point_of_four(part: u64) -> &'static str
-    ensures { result.now ≡ point_of_four part }
-{
-    if part < 10 {
-        ".000"
-    } else if part < 100 {
-        ".00"
-    } else if part < 1_000 {
-        ".0"
-    } else {
-        "."
-    }
+// A number of parts, of which UNIT make a whole, written with so many decimals.
+#[derive(Clone, Copy, PartialEq, Eq, Debug)]
+pub struct Decimal<const UNIT: u64, const DECIMALS: usize> {
+    pub value: i64,
+    ghost whole: { 0 < UNIT },
 }
 
-// The same, up to eight digits.
-fn point_of_eight(part: u64) -> &'static str
-    ensures { result.now ≡ point_of_eight part }
-{
-    if part < 10 {
-        ".0000000"
-    } else if part < 100 {
-        ".000000"
-    } else if part < 1_000 {
-        ".00000"
-    } else if part < 10_000 {
-        ".0000"
-    } else {
-        point_of_four(part / 10_000)
-    }
-}
+// Ten-thousandths of a dollar or a point.
+pub type Money = Decimal<10_000, 4>;
 
-// Ten-thousandths of a dollar or a point, with four decimals.
-#[derive(Clone, Copy)]
-pub struct Money(pub i64);
+// Hundred-millionths of a point.
+pub type Accumulated = Decimal<100_000_000, 8>;
 
-impl fmt::Display for Money {
-    ghost output = { λ x. Some (money x.0) };
+impl<const UNIT: u64, const DECIMALS: usize> fmt::Display for Decimal<UNIT, DECIMALS> {
+    ghost output = { λ x. Some (decimal_text UNIT DECIMALS x.value) };
 
     fn fmt<W: fmt::Write>(&self, f: &mut fmt::Formatter<W>) -> fmt::Result {
-        let sign = sign_of(self.0);
-        let size = self.0.unsigned_abs();
-        let whole = size / 10_000;
-        let part = size % 10_000;
-        let point = point_of_four(part);
-        write!(f, "{sign}{whole}{point}{part}")
-    }
-}
-
-// Hundred-millionths, with eight decimals.
-#[derive(Clone, Copy)]
-pub struct Accumulated(pub i64);
-
-impl fmt::Display for Accumulated {
-    ghost output = { λ x. Some (accumulated x.0) };
-
-    fn fmt<W: fmt::Write>(&self, f: &mut fmt::Formatter<W>) -> fmt::Result {
-        let sign = sign_of(self.0);
-        let size = self.0.unsigned_abs();
-        let whole = size / 100_000_000;
-        let part = size % 100_000_000;
-        let point = point_of_eight(part);
-        write!(f, "{sign}{whole}{point}{part}")
+        let sign = sign_of(self.value);
+        let size = self.value.unsigned_abs();
+        let whole = size / UNIT;
+        let part = size % UNIT;
+        write!(f, "{sign}{whole}.{part:0DECIMALS$}")
     }
 }
 
@@ -89,8 +48,8 @@ impl fmt::Display for Line {
                 price,
                 accumulated,
             } => {
-                let price = Money(price);
-                let accumulated = Accumulated(accumulated);
+                let price = Money { value: price };
+                let accumulated = Accumulated { value: accumulated };
                 write!(f, "C {day} {price} {accumulated}")
             }
         }
@@ -98,22 +57,19 @@ impl fmt::Display for Line {
 }
 
 // The word for what was refused: a call by its name.
-fn call_word(cause: Cause) -> &'static str
-    ensures { result.now ≡ call_word cause }
-{
-    match cause {
-        Cause::File(_) => "file",
-        Cause::Account(_) => "account",
-        Cause::Memory => "memory",
-        Cause::Call(fault) => match fault.call {
-            CallName::List => "list",
-            CallName::Open => "open",
-            CallName::Trade => "trade",
-            CallName::Bust => "bust",
-            CallName::Close => "close",
-            CallName::Accrue => "accrue",
-            CallName::Settle => "settle",
-        },
+impl fmt::Display for Cause {
+    ghost output = { λ x. Some (call_word x) };
+
+    fn fmt<W: fmt::Write>(&self, f: &mut fmt::Formatter<W>) -> fmt::Result {
+        match *self {
+            Cause::File(_) => f.write_str("file"),
+            Cause::Account(_) => f.write_str("account"),
+            Cause::Call(refused) => {
+                let call = refused.call;
+                write!(f, "{call}")
+            }
+            Cause::Memory => f.write_str("memory"),
+        }
     }
 }
 
@@ -122,14 +78,16 @@ impl fmt::Display for FileFault {
 
     fn fmt<W: fmt::Write>(&self, f: &mut fmt::Formatter<W>) -> fmt::Result {
         let place = self.place;
-        let call = call_word(self.cause);
-        match self.cause.fault() {
+        let cause = self.cause;
+        match cause.fault() {
             Some(fault) => {
                 let number = fault.refusal.number();
-                let account = fault.account;
-                write!(f, "R {place} {call} {number} {account}")
+                let account = fault.account.unwrap_or(0);
+                write!(f, "R {place} {cause} {number} {account}")
             }
-            None => write!(f, "no {call} at {place}"),
+            None => write!(f, "no {cause} at {place}"),
         }
     }
 }
+
+impl Error for FileFault {}

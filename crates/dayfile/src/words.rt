@@ -1,9 +1,12 @@
 // The words of a day file, and what one or two of them say.
-ghost use Rattle.std.specs.Prelude.{◌≡◌, ◌+◌, ◌*◌, ◌≤◌, true, length};
-ghost use Rattle.dayfile.specs.Words.{word, index_value, single, starts, double};
+ghost use Rattle.std.specs.Prelude.{◌≡◌, ◌+◌, ◌*◌, ◌^◌, ◌<◌, ◌≤◌, true, length};
+ghost use Rattle.dayfile.specs.Words.{word, index_value, number_of, single, starts, double, of_single, of_double, wrong};
 
+use crate::file_fault::{Cause, FileFault};
+use crate::kind::Kind;
 use crate::reader::Item;
 use contract::Call;
+use faults::{Refusal, require};
 
 // A word is a kind, its top 4 bits, and a body of 28 bits.
 pub(crate) const BODIES: u32 = 1 << 28;
@@ -14,6 +17,13 @@ const TICKS: u32 = 1 << 12;
 
 const VEGA_END: u32 = 1 << 27;
 
+// An item, and how many words it takes.
+#[derive(Clone, Copy)]
+pub(crate) struct Read {
+    pub(crate) item: Item,
+    pub(crate) words: usize,
+}
+
 // The word at a place, its highest byte first.
 pub(crate) fn word_at(bytes: &[u8], place: usize) -> u32
     requires { 4 * place + 4 ≤ length bytes.now }
@@ -23,58 +33,69 @@ pub(crate) fn word_at(bytes: &[u8], place: usize) -> u32
     u32::from_be_bytes([bytes[at], bytes[at + 1], bytes[at + 2], bytes[at + 3]])
 }
 
+pub(crate) fn wrong_word(place: usize) -> FileFault
+    ensures { result ≡ wrong place }
+{
+    FileFault {
+        place,
+        cause: Cause::File(Refusal::WrongWord),
+    }
+}
+
 // 0 stands for a disrupted day.
 fn value_of(body: u32) -> Option<u32>
     ensures { result ≡ index_value body }
 {
-    if body == 0 { None } else { Some(body) }
+    (body != 0).then_some(body)
 }
 
-// What a word says that needs no second.
-pub(crate) fn one_word(kind: u32, body: u32) -> Option<Item>
-    ensures { result ≡ single kind body }
+// What the word at a place says that needs no second.
+pub(crate) fn one_word(place: usize, kind: Kind, body: u32) -> Result<Read, FileFault>
+    ensures { result ≡ of_single place (single (number_of kind) body) }
 {
-    match kind {
-        3 => Some(Item::Call(Call::Open { discount: body })),
-        6 => Some(Item::Call(Call::Bust { ticket: body })),
-        9 => Some(Item::Call(Call::Accrue { rate: body })),
-        10 => Some(Item::Call(Call::Settle {
+    let item = match kind {
+        Kind::DiscountFactor => Item::Call(Call::Open { discount: body }),
+        Kind::Ticket => Item::Call(Call::Bust { ticket: body }),
+        Kind::Rate => Item::Call(Call::Accrue { rate: body }),
+        Kind::FinalValue => Item::Call(Call::Settle {
             value: value_of(body),
-        })),
-        11 => Some(Item::Account(body)),
-        _ => None,
-    }
+        }),
+        Kind::AccountNumber => Item::Account(body),
+        _ => return Err(wrong_word(place)),
+    };
+    Ok(Read { item, words: 1 })
 }
 
-// The call of two words, or which of the two is wrong, counted from 0.
-pub(crate) fn two_words(kind: u32, body: u32, second: u32) -> Result<Item, usize>
-    requires { starts kind ≡ true }
-    ensures { result ≡ double kind body second }
+// The call of two words. A second word of another kind leaves the first unfinished.
+pub(crate) fn two_words(place: usize, kind: Kind, body: u32, second: u32) -> Result<Read, FileFault>
+    requires kind { starts (number_of kind) ≡ true }
+    requires place { place + 1 < 2 ^ 64 }
+    ensures { result ≡ of_double place (double (number_of kind) body second) }
 {
-    if second / BODIES != kind + 1 {
-        return Err(0);
-    }
+    require(second / BODIES == kind as u32 + 1, wrong_word(place))?;
     let rest = second % BODIES;
-    match kind {
-        1 => Ok(Item::Call(Call::List {
+    let call = match kind {
+        Kind::ExpectedValues => Call::List {
             expected: body,
             strike: rest,
-        })),
-        4 => {
-            if rest >= VEGA_END {
-                return Err(1);
-            }
-            Ok(Item::Call(Call::Trade {
+        },
+        Kind::Accounts => {
+            require(rest < VEGA_END, wrong_word(place + 1))?;
+            Call::Trade {
                 buyer: body / HALVES,
                 seller: body % HALVES,
                 vega: rest / TICKS,
                 tick: rest % TICKS,
-            }))
+            }
         }
-        _ => Ok(Item::Call(Call::Close {
+        _ => Call::Close {
             value: value_of(body),
             bid: rest / HALVES,
             offer: rest % HALVES,
-        })),
-    }
+        },
+    };
+    Ok(Read {
+        item: Item::Call(call),
+        words: 2,
+    })
 }

@@ -3,20 +3,17 @@
 
 #[cfg(test)]
 mod tests {
-    use contract::Contract;
-    use dayfile::{AccountList, Accumulated, Money, run};
+    use dayfile::{Accumulated, Day, Money};
     use std::alloc::AllocGlobal;
     use std::fmt::Write;
     use std::process::Abort;
     use std::test::*;
 
     fn sheet(rt: &impl AllocGlobal, bytes: &[u8]) -> Result<String, Fail> {
-        let mut contract = Contract::new();
-        let mut accounts = AccountList::new();
-        let mut lines = Vec::new(rt.alloc());
-        let end = run(bytes, &mut contract, &mut accounts, &mut lines);
+        let mut day = Day::new(rt.alloc());
+        let end = day.run(bytes);
         let mut text = String::new(rt.alloc());
-        for line in lines.iter() {
+        for line in day.lines.iter() {
             writeln!(text, "{line}")?;
         }
         if let Err(fault) = end {
@@ -193,8 +190,8 @@ mod tests {
         money: &str,
         accumulated: &str,
     ) -> Result<(), Fail> {
-        let four = Money(value).to_string(rt.alloc())?;
-        let eight = Accumulated(value).to_string(rt.alloc())?;
+        let four = Money { value }.to_string(rt.alloc())?;
+        let eight = Accumulated { value }.to_string(rt.alloc())?;
         assert_eq!(rt; four.as_str(), money);
         assert_eq!(rt; eight.as_str(), accumulated);
         Ok(())

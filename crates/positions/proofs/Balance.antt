@@ -1,8 +1,8 @@
 -- Trades and busts give back what they took, and leave the sums over the accounts.
-use Rattle.std.proofs.Common.{◌≡◌, ℕ, Bool, true, false, eqb, List, ℤ, pos, ◌+ℤ◌, neg_ℤ, Some, None, Option, sym, refl, ap, ◌∙◌, subst, arith, eqb-true}
-use borrow.Author.Differences.{ints}
-use borrow.Author.Tests.{eqb-false}
+use Rattle.std.proofs.Common.{◌≡◌, ℕ, Bool, true, false, eqb, List, ℤ, pos, ◌+ℤ◌, neg_ℤ, Some, None, Option, sym, refl, ap, ◌∙◌, subst, arith}
+use Rattle.std.proofs.lemmas.Int.{ints}
 use lib.IntN.{neg_ℤ-neg_ℤ}
+use Rattle.std.proofs.lemmas.Bool.Decides.{nat_tests}
 use Rattle.table.specs.declared.keyed.Keyed.{Keyed}
 use Rattle.table.specs.Records.{find_in, sum_of, amount_of}
 use Rattle.table.proofs.Laws.{take-put_new}
@@ -10,9 +10,8 @@ use Rattle.table.proofs.Sums.{sum-put}
 use Rattle.positions.specs.declared.records.Account.{Account}
 use Rattle.positions.specs.declared.records.Trade.{Trade}
 use Rattle.positions.specs.Positions.{no_position, position, account_of, more, changed, cost_of, traded, busted}
-use Rattle.positions.specs.Trading.{undone}
 use Rattle.positions.specs.Laws.{SameTotals, PositionsBalance}
-use Rattle.positions.proofs.Positions.{both, changed_same, changed_other, there_and_back}
+use Rattle.positions.proofs.Positions.{both, changed_same, changed_other, there_and_back, back_and_there}
 
 -- ---- the record of one account
 
@@ -21,24 +20,12 @@ more_if true q v x = more q v x
 more_if false q v x = x
 
 changed_if : (a b : ℕ) (q v : ℤ) (xs : List (Keyed Account)) → account_of a (changed b q v xs) ≡ more_if (eqb a b) q v (account_of a xs)
-changed_if a b q v xs = by (eqb a b) refl
-  where
-    by : (t : Bool) → eqb a b ≡ t → account_of a (changed b q v xs) ≡ more_if t q v (account_of a xs)
-    by true h = changed_same a b q v xs (eqb-true a b h)
-    by false h = changed_other a b q v xs (eqb-false a b h)
-
-abbrev held : ℤ → ℤ → ℤ → Account
-held units close cost = record { units = units; units_at_close = close; cost = cost }
-
-same_account : (x y : Account) → y.units ≡ x.units → y.units_at_close ≡ x.units_at_close → y.cost ≡ x.cost → y ≡ x
-same_account x y units close cost =
-    ap (λ z. held z y.units_at_close y.cost) units ∙ ap (λ z. held x.units z y.cost) close ∙ ap (held x.units x.units_at_close) cost
+changed_if a b q v xs = let same = changed_same a b q v xs in let other = changed_other a b q v xs in grind (arith, nat_tests)
 
 more_back : (buys sells : Bool) (q v : ℤ) (x : Account) → more_if sells q v (more_if buys (neg_ℤ q) (neg_ℤ v) (more_if sells (neg_ℤ q) (neg_ℤ v) (more_if buys q v x))) ≡ x
-more_back true true q v x =
-    same_account x (more q v (more (neg_ℤ q) (neg_ℤ v) (more (neg_ℤ q) (neg_ℤ v) (more q v x)))) (omega (arith, ints)) refl (omega (arith, ints))
-more_back true false q v x = same_account x (more (neg_ℤ q) (neg_ℤ v) (more q v x)) (omega (arith, ints)) refl (omega (arith, ints))
-more_back false true q v x = same_account x (more q v (more (neg_ℤ q) (neg_ℤ v) x)) (omega (arith, ints)) refl (omega (arith, ints))
+more_back true true q v x = simp (there_and_back, back_and_there)
+more_back true false q v x = simp there_and_back
+more_back false true q v x = simp back_and_there
 more_back false false q v x = refl
 
 given_back : (t : Trade) (xs : List (Keyed Account)) (a : ℕ) → account_of a (busted t (traded t xs)) ≡ account_of a xs
@@ -77,7 +64,7 @@ module _ (figure : Account → ℤ) (none : figure no_position ≡ pos 0) (rise 
       ∙ ap (λ z. z +ℤ rise (neg_ℤ q) (neg_ℤ v)) (sum_changed b q v xs)
       ∙ back (sum_of (λ (x : Keyed Account). figure x.value) xs)
 
-moved_totals : (b s : ℕ) (q v : ℤ) (xs : List (Keyed Account)) → SameTotals xs (changed s (neg_ℤ q) (neg_ℤ v) (changed b q v xs))
+pub moved_totals : (b s : ℕ) (q v : ℤ) (xs : List (Keyed Account)) → SameTotals xs (changed s (neg_ℤ q) (neg_ℤ v) (changed b q v xs))
 moved_totals b s q v xs = record {
   units = sum_moved (λ (x : Account). x.units) refl (λ q v. q) (λ q v x. refl) b s q v xs (λ z. there_and_back z q);
   at_close = sum_moved (λ (x : Account). x.units_at_close) refl (λ q v. pos 0) (λ q v x. omega (arith, ints)) b s q v xs (λ z. omega (arith, ints));
@@ -98,12 +85,3 @@ positions_balance = record {
   trade_totals = λ t xs. moved_totals t.buyer t.seller (pos t.units) (cost_of t) xs;
   bust_totals = bust_totals;
 }
-
--- ---- nothing changed, or a bust where the trade is found
-
-pub same_totals : (xs : List (Keyed Account)) → SameTotals xs xs
-same_totals xs = record { units = refl; at_close = refl; cost = refl }
-
-pub undone_totals : (o : Option (Keyed Trade)) (xs : List (Keyed Account)) → SameTotals xs (undone o xs)
-undone_totals None xs = same_totals xs
-undone_totals (Some t) xs = bust_totals t.value xs

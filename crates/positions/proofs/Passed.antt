@@ -1,5 +1,5 @@
 -- The changes that passed checks allow.
-use Rattle.std.proofs.Common.{◌≡◌, ℕ, Bool, true, not, ◌||◌, eqb, ltb, List, length, ℤ, pos, neg_ℤ, is_some, None, sym, ap, ◌∙◌, subst}
+use Rattle.std.proofs.Common.{◌≡◌, ℕ, Bool, true, not, ◌||◌, eqb, ltb, List, length, pos, neg_ℤ, is_some, None, ◌∙◌}
 use lib.IntN.{neg_ℤ-neg_ℤ}
 use Rattle.std.proofs.lemmas.Bool.{and_parts, or_left, or_right}
 use Rattle.faults.specs.Checks.{first_fault}
@@ -12,27 +12,14 @@ use Rattle.positions.specs.declared.records.Trade.{Trade}
 use Rattle.positions.specs.Limits.{account_places, trade_places}
 use Rattle.positions.specs.Positions.{account_of, more, changed, cost_of}
 use Rattle.positions.specs.Trading.{units_hold, has_account_place, has_trade_place, entry_checks, is_there, bust_checks_of}
-use Rattle.positions.specs.Changes.{Allowed}
-use Rattle.positions.proofs.Rows.{all_pass}
-
--- ---- a change at equal figures
-
-pub at_change : (P : ℤ → ℤ → Type 0) {q q' v v' : ℤ} → q ≡ q' → v ≡ v' → P q' v' → P q v
-at_change P {q = q} {v' = v'} e g h = subst (P q) (sym g) (subst (λ z. P z v') (sym e) h)
-
-pub at_table : {room room' a : ℕ} {q v : ℤ} {xs xs' : List (Keyed Account)} → room ≡ room' → xs ≡ xs' → Allowed room' a q v xs' → Allowed room a q v xs
-at_table {room = room} {a = a} {q = q} {v = v} {xs' = xs'} e g h = subst (Allowed room a q v) (sym g) (subst (λ n. Allowed n a q v xs') (sym e) h)
-
--- the change q, v to the buyer b and its opposite to the seller s
-pub record BothAllowed (room b s : ℕ) (xs : List (Keyed Account)) (q v : ℤ) : Type 0 where
-  pub buyer : Allowed room b q v xs
-  pub seller : Allowed room s (neg_ℤ q) (neg_ℤ v) (changed b q v xs)
+use Rattle.positions.specs.Changes.{BothAllowed}
+use Rattle.faults.proofs.Rows.{all_pass}
 
 -- ---- a trade
 
 pub entry_allowed : (room trade_room : ℕ) (xs : List (Keyed Account)) (ts : List (Keyed Trade)) (ticket : ℕ) (t : Trade)
     → first_fault (entry_checks room trade_room xs ts ticket t) ≡ None
-    → BothAllowed room t.buyer t.seller xs (pos t.units) (cost_of t) × (place_for trade_room ticket ts ≡ true)
+    → BothAllowed room t.buyer t.seller (pos t.units) (cost_of t) xs × (place_for trade_room ticket ts ≡ true)
 unfolding has_account_place has_trade_place
 entry_allowed room trade_room xs ts ticket t h =
     let p = all_pass (entry_checks room trade_room xs ts ticket t) h in (
@@ -50,10 +37,10 @@ entry_allowed room trade_room xs ts ticket t h =
 -- ---- a bust
 
 unless_absent : (there holds : Bool) → (not there || holds) ≡ true → there ≡ true → holds ≡ true
-unless_absent there holds h e = sym (ap (λ b. not b || holds) e) ∙ h
+unless_absent there holds h e = rw e at h
 
 pub bust_allowed : (room : ℕ) (xs : List (Keyed Account)) (t : Trade) → first_fault (bust_checks_of t xs) ≡ None
-    → BothAllowed room t.buyer t.seller xs (neg_ℤ (pos t.units)) (neg_ℤ (cost_of t))
+    → BothAllowed room t.buyer t.seller (neg_ℤ (pos t.units)) (neg_ℤ (cost_of t)) xs
 bust_allowed room xs t h =
     let q = neg_ℤ (pos t.units) in
     let v = neg_ℤ (cost_of t) in
@@ -69,7 +56,7 @@ bust_allowed room xs t h =
         cost = p.1.1.1.0;
         place = or_left (is_there t.buyer xs) (ltb (length xs) room) there.0;
       };
-      seller = at_change (λ q v. Allowed room t.seller q v ys) (neg_ℤ-neg_ℤ (pos t.units)) (neg_ℤ-neg_ℤ (cost_of t)) record {
+      seller = rw (neg_ℤ-neg_ℤ (pos t.units), neg_ℤ-neg_ℤ (cost_of t)) record {
         units = unless_absent (is_there t.seller xs) (units_hold (pos t.units) (account_of t.seller ys)) p.1.0 there.1;
         cost = p.1.1.1.1.0;
         place = or_left (is_some (find_in t.seller ys)) (ltb (length ys) room) found;

@@ -1,6 +1,7 @@
 -- The record of an account after a change to one, and the limits that a change back meets.
-use Rattle.std.proofs.Common.{◌≡◌, ℕ, Bool, true, false, ◌&&◌, List, ℤ, ◌+ℤ◌, neg_ℤ, sym, refl, ap, ◌∙◌, arith}
-use borrow.Author.Differences.{ints}
+use Rattle.std.proofs.Common.{◌≡◌, ℕ, Bool, ◌&&◌, List, ℤ, ◌+ℤ◌, neg_ℤ, sym, ap, ◌∙◌, arith}
+use Rattle.std.proofs.Math.Bool.{and_assoc, and_comm}
+use Rattle.std.proofs.lemmas.Int.{ints}
 use Rattle.table.specs.declared.keyed.Keyed.{Keyed}
 use Rattle.table.proofs.Laws.{find-put_same, find-put_other}
 use Rattle.positions.specs.declared.records.Account.{Account}
@@ -24,32 +25,22 @@ module _ (a b : ℕ) (q v : ℤ) (xs : List (Keyed Account)) where
 pub there_and_back : (z q : ℤ) → z +ℤ q +ℤ neg_ℤ q ≡ z
 there_and_back z q = omega (arith, ints)
 
-turned : (a b c : Bool) → (a && b && c) ≡ (c && b && a)
-turned true true true = refl
-turned true true false = refl
-turned true false true = refl
-turned true false false = refl
-turned false true true = refl
-turned false true false = refl
-turned false false true = refl
-turned false false false = refl
+pub back_and_there : (z q : ℤ) → z +ℤ neg_ℤ q +ℤ q ≡ z
+back_and_there z q = omega (arith, ints)
 
-turned_two : (a b : Bool) → (a && b) ≡ (b && a)
-turned_two true true = refl
-turned_two true false = refl
-turned_two false true = refl
-turned_two false false = refl
+swapped : (a b c : Bool) → (a && b && c) ≡ (c && b && a)
+swapped a b c = and_comm (a && b) c ∙ ap (λ t. c && t) (and_comm a b) ∙ sym (and_assoc c b a)
 
 -- a change back meets the same limits
 module _ (q v : ℤ) (x : Account) where
   pub units_back : units_hold q x ≡ units_hold (neg_ℤ q) (more q v x)
   unfolding units_hold
   units_back =
-      turned (inside most_units x.units) (inside most_units x.units_at_close) (inside most_units (x.units +ℤ q))
+      swapped (inside most_units x.units) (inside most_units x.units_at_close) (inside most_units (x.units +ℤ q))
       ∙ ap (λ z. inside most_units (x.units +ℤ q) && inside most_units x.units_at_close && inside most_units z) (sym (there_and_back x.units q))
 
   pub cost_back : cost_holds v x ≡ cost_holds (neg_ℤ v) (more q v x)
   unfolding cost_holds
   cost_back =
-      turned_two (inside most_cost x.cost) (inside most_cost (x.cost +ℤ v))
+      and_comm (inside most_cost x.cost) (inside most_cost (x.cost +ℤ v))
       ∙ ap (λ z. inside most_cost (x.cost +ℤ v) && inside most_cost z) (sym (there_and_back x.cost v))

@@ -1,5 +1,4 @@
 pub mod Changes
-pub mod Checking
 pub mod Laws
 pub mod Limits
 pub mod Positions

@@ -20,8 +20,8 @@ impl Change {
         ensures cost { result.cost ≡ cost_of trade }
     {
         Change {
-            units: trade.units as i64,
-            cost: trade.units as i128 * trade.price as i128,
+            units: i64::from(trade.units),
+            cost: i128::from(trade.units) * i128::from(trade.price),
         }
     }
 

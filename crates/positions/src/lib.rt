@@ -2,7 +2,6 @@
 #![tactic(auto)]
 
 mod change;
-mod check;
 mod laws;
 pub mod limits;
 mod places;

@@ -1,7 +1,6 @@
 // The two sides of a trade: the records that it reads, and the changes that it would make.
 ghost use Rattle.std.specs.Prelude.{◌≡◌, true, neg_ℤ};
 ghost use Rattle.table.specs.View.{records};
-ghost use Rattle.positions.specs.Limits.{inside};
 ghost use Rattle.positions.specs.Positions.{account_of, changed, more};
 ghost use Rattle.positions.specs.Trading.{cost_holds, units_hold};
 
@@ -17,36 +16,59 @@ pub(crate) struct Side {
     pub(crate) change: Change,
 }
 
-// A size of `most` at most.
-fn is_inside(value: i128, most: u64) -> bool
-    ensures { result ≡ inside most value }
-{
-    value.unsigned_abs() <= most as u128
-}
-
 impl Side {
+    // The side of an account, with nothing in the record of one that is not in the table.
+    pub(crate) fn of(accounts: &Table<'_, Account>, number: u32, change: Change) -> Side
+        ensures account { result.account ≡ account_of number (records accounts.now) }
+        ensures change { result.change ≡ change }
+    {
+        let held = accounts.find(number);
+        Side {
+            account: held.map(|held| held.value).unwrap_or_default(),
+            change,
+        }
+    }
+
+    // The seller's side, read after the buyer's change. An account that sells to itself comes back to where it was, so its second change meets the
+    // limits that its first meets.
+    #[tactic(auto, using(crate::proofs::Positions::changed_same, crate::proofs::Positions::changed_other, crate::proofs::Positions::units_back, crate::proofs::Positions::cost_back))]
+    pub(crate) fn of_seller(
+        accounts: &Table<'_, Account>,
+        buyer: u32,
+        seller: u32,
+        change: Change,
+    ) -> Side
+        ensures units { units_hold result.change.units result.account ≡ units_hold (neg_ℤ change.units) (account_of seller (changed buyer change.units change.cost (records accounts.now))) }
+        ensures cost { cost_holds result.change.cost result.account ≡ cost_holds (neg_ℤ change.cost) (account_of seller (changed buyer change.units change.cost (records accounts.now))) }
+    {
+        let made = if seller == buyer {
+            change
+        } else {
+            change.opposite()
+        };
+        Side::of(accounts, seller, made)
+    }
+
     // Whether the units are within the limit before and after, and those at the last close.
+    #[tactic(auto, unfolding(crate::specs::Trading::units_hold))]
     pub(crate) fn units_hold(self) -> bool
         ensures { result ≡ units_hold self.change.units self.account }
     {
-        let units = self.account.units as i128;
-        let at_close = self.account.units_at_close as i128;
-        let after = units + self.change.units as i128;
-        is_inside(units, MOST_UNITS)
-            & is_inside(at_close, MOST_UNITS)
-            & is_inside(after, MOST_UNITS)
+        self.account.has_units_within()
+            && (self.account.units + self.change.units).unsigned_abs() <= MOST_UNITS
     }
 
     // Whether the cost is within the limit before and after.
+    #[tactic(auto, unfolding(crate::specs::Trading::cost_holds))]
     pub(crate) fn cost_holds(self) -> bool
         ensures { result ≡ cost_holds self.change.cost self.account }
     {
-        let cost = self.account.cost as i128;
-        let after = cost + self.change.cost;
-        is_inside(cost, MOST_COST) & is_inside(after, MOST_COST)
+        let after = i128::from(self.account.cost) + self.change.cost;
+        self.account.has_cost_within() & (after.unsigned_abs() <= u128::from(MOST_COST))
     }
 
     // The record with the change made.
+    #[tactic(auto, using(crate::proofs::Holds::units_fit, crate::proofs::Holds::cost_fits))]
     pub(crate) fn after(self) -> Account
         requires units { units_hold self.change.units self.account ≡ true }
         requires cost { cost_holds self.change.cost self.account ≡ true }
@@ -54,43 +76,8 @@ impl Side {
     {
         Account {
             units: self.account.units + self.change.units,
-            units_at_close: self.account.units_at_close,
-            cost: (self.account.cost as i128 + self.change.cost) as i64,
+            cost: (i128::from(self.account.cost) + self.change.cost) as i64,
+            ..self.account
         }
-    }
-}
-
-// An account's record, with nothing in it for one that is not in the table.
-pub(crate) fn position_of(accounts: &Table<'_, Account>, number: u32) -> Account
-    ensures { result ≡ account_of number (records accounts.now) }
-{
-    match accounts.find(number) {
-        Some(held) => held.value,
-        None => Account {
-            units: 0,
-            units_at_close: 0,
-            cost: 0,
-        },
-    }
-}
-
-// The seller's side, read after the buyer's change. An account that sells to itself comes back to where it was, so its second change meets the
-// limits that its first meets.
-pub(crate) fn seller_side(
-    accounts: &Table<'_, Account>,
-    buyer: u32,
-    seller: u32,
-    change: Change,
-) -> Side
-    ensures units { units_hold result.change.units result.account ≡ units_hold (neg_ℤ change.units) (account_of seller (changed buyer change.units change.cost (records accounts.now))) }
-    ensures cost { cost_holds result.change.cost result.account ≡ cost_holds (neg_ℤ change.cost) (account_of seller (changed buyer change.units change.cost (records accounts.now))) }
-{
-    let account = position_of(accounts, seller);
-    if seller == buyer {
-        return Side { account, change };
-    }
-    Side {
-        account,
-        change: change.opposite(),
     }
 }

@@ -2,19 +2,18 @@
 ghost use Rattle.std.specs.Prelude.{◌≡◌, neg_ℤ};
 ghost use Rattle.faults.specs.Checks.{first_fault, verdict};
 ghost use Rattle.table.specs.Records.{find_in};
-ghost use Rattle.table.specs.View.{records, room};
-ghost use Rattle.positions.specs.Changes.{Allowed};
+ghost use Rattle.table.specs.View.{SamePlaces, records, room};
+ghost use Rattle.positions.specs.Changes.{Allowed, BothAllowed};
 ghost use Rattle.positions.specs.Laws.{SameTotals};
 ghost use Rattle.positions.specs.Positions.{changed};
 ghost use Rattle.positions.specs.Trading.{Busts, Enters, bust_checks, bust_checks_of, entry_checks};
 
 use crate::change::Change;
-use crate::check::{Check, verdict_of};
 use crate::limits::LAST_TICKET;
 use crate::places::{buyer_has_place, seller_has_place, trade_has_place};
 use crate::records::{Account, Trade};
-use crate::side::{Side, position_of, seller_side};
-use faults::{Fault, Refusal};
+use crate::side::Side;
+use faults::{Fault, Refusal, require};
 use table::{Keyed, Table};
 
 // What speaks against a trade, in rising number: the first of it.
@@ -27,29 +26,22 @@ fn check_entry(
     ensures { result ≡ verdict tt (first_fault (entry_checks (room accounts.now) (room trades.now) (records accounts.now) (records trades.now) ticket trade)) }
 {
     let change = Change::bought(trade);
-    let buyer = Side {
-        account: position_of(accounts, trade.buyer),
-        change,
-    };
-    let seller = seller_side(accounts, trade.buyer, trade.seller, change);
-    verdict_of(&[
-        Check::new(buyer.units_hold(), Refusal::AccountUnits, trade.buyer),
-        Check::new(seller.units_hold(), Refusal::AccountUnits, trade.seller),
-        Check::new(
-            buyer_has_place(accounts, trade.buyer),
-            Refusal::NoAccountPlace,
-            trade.buyer,
-        ),
-        Check::new(
-            seller_has_place(accounts, trade.buyer, trade.seller),
-            Refusal::NoAccountPlace,
-            trade.seller,
-        ),
-        Check::new(trade_has_place(trades, ticket), Refusal::NoTradePlace, 0),
-        Check::new(ticket <= LAST_TICKET, Refusal::TradesUsedUp, 0),
-        Check::new(buyer.cost_holds(), Refusal::OutOfRange, trade.buyer),
-        Check::new(seller.cost_holds(), Refusal::OutOfRange, trade.seller),
-    ])
+    let buyer = Side::of(accounts, trade.buyer, change);
+    let seller = Side::of_seller(accounts, trade.buyer, trade.seller, change);
+    require(buyer.units_hold(), Refusal::AccountUnits.at(trade.buyer))?;
+    require(seller.units_hold(), Refusal::AccountUnits.at(trade.seller))?;
+    require(
+        buyer_has_place(accounts, trade.buyer),
+        Refusal::NoAccountPlace.at(trade.buyer),
+    )?;
+    require(
+        seller_has_place(accounts, trade.buyer, trade.seller),
+        Refusal::NoAccountPlace.at(trade.seller),
+    )?;
+    require(trade_has_place(trades, ticket), Refusal::NoTradePlace)?;
+    require(ticket <= LAST_TICKET, Refusal::TradesUsedUp)?;
+    require(buyer.cost_holds(), Refusal::OutOfRange.at(trade.buyer))?;
+    require(seller.cost_holds(), Refusal::OutOfRange.at(trade.seller))
 }
 
 // What speaks against a bust. The units of an account that is not in the table are not asked for.
@@ -57,41 +49,30 @@ fn check_bust(accounts: &Table<'_, Account>, trade: Trade) -> Result<(), Fault>
     ensures { result ≡ verdict tt (first_fault (bust_checks_of trade (records accounts.now))) }
 {
     let change = Change::bought(trade).opposite();
-    let buyer = Side {
-        account: position_of(accounts, trade.buyer),
-        change,
-    };
-    let seller = seller_side(accounts, trade.buyer, trade.seller, change);
+    let buyer = Side::of(accounts, trade.buyer, change);
+    let seller = Side::of_seller(accounts, trade.buyer, trade.seller, change);
     let buyer_there = accounts.find(trade.buyer).is_some();
     let seller_there = accounts.find(trade.seller).is_some();
-    verdict_of(&[
-        Check::new(
-            !buyer_there | buyer.units_hold(),
-            Refusal::AccountUnits,
-            trade.buyer,
-        ),
-        Check::new(
-            !seller_there | seller.units_hold(),
-            Refusal::AccountUnits,
-            trade.seller,
-        ),
-        Check::new(buyer_there & seller_there, Refusal::NoSuchTrade, 0),
-        Check::new(buyer.cost_holds(), Refusal::OutOfRange, trade.buyer),
-        Check::new(seller.cost_holds(), Refusal::OutOfRange, trade.seller),
-    ])
+    require(
+        !buyer_there | buyer.units_hold(),
+        Refusal::AccountUnits.at(trade.buyer),
+    )?;
+    require(
+        !seller_there | seller.units_hold(),
+        Refusal::AccountUnits.at(trade.seller),
+    )?;
+    require(buyer_there & seller_there, Refusal::NoSuchTrade)?;
+    require(buyer.cost_holds(), Refusal::OutOfRange.at(trade.buyer))?;
+    require(seller.cost_holds(), Refusal::OutOfRange.at(trade.seller))
 }
 
 // Makes a change to one account.
 fn make_change(accounts: &mut Table<'_, Account>, number: u32, change: Change)
     requires { Allowed (room accounts.old) number change.units change.cost (records accounts.old) }
     ensures records { records accounts.new ≡ changed number change.units change.cost (records accounts.old) }
-    ensures room { room accounts.new ≡ room accounts.old }
-    ensures lender { accounts.new.places.ghost_name ≡ accounts.old.places.ghost_name }
+    ensures places { SamePlaces accounts.old accounts.new }
 {
-    let side = Side {
-        account: position_of(accounts, number),
-        change,
-    };
+    let side = Side::of(accounts, number, change);
     let _ = accounts.put(Keyed {
         key: number,
         value: side.after(),
@@ -100,17 +81,17 @@ fn make_change(accounts: &mut Table<'_, Account>, number: u32, change: Change)
 
 // Makes a change to the buyer, then its opposite to the seller.
 fn make_changes(accounts: &mut Table<'_, Account>, buyer: u32, seller: u32, change: Change)
-    requires buyer { Allowed (room accounts.old) buyer change.units change.cost (records accounts.old) }
-    requires seller { Allowed (room accounts.old) seller (neg_ℤ change.units) (neg_ℤ change.cost) (changed buyer change.units change.cost (records accounts.old)) }
+    requires { BothAllowed (room accounts.old) buyer seller change.units change.cost (records accounts.old) }
     ensures records { records accounts.new ≡ changed seller (neg_ℤ change.units) (neg_ℤ change.cost) (changed buyer change.units change.cost (records accounts.old)) }
-    ensures room { room accounts.new ≡ room accounts.old }
-    ensures lender { accounts.new.places.ghost_name ≡ accounts.old.places.ghost_name }
+    ensures totals { SameTotals (records accounts.old) (records accounts.new) }
+    ensures places { SamePlaces accounts.old accounts.new }
 {
     make_change(accounts, buyer, change);
     make_change(accounts, seller, change.opposite());
 }
 
 // Enters a trade under its ticket. A refused trade changes neither table.
+// A book lends its tables side by side, with its contract and its ledger, and none of them keeps another.
 pub fn enter(
     accounts: &mut Table<'_, Account>,
     trades: &mut Table<'_, Trade>,
@@ -119,8 +100,8 @@ pub fn enter(
 ) -> Result<(), Fault>
     ensures outcome { Enters (first_fault (entry_checks (room accounts.old) (room trades.old) (records accounts.old) (records trades.old) ticket trade)) ticket trade result (records accounts.old) (records accounts.new) (records trades.old) (records trades.new) }
     ensures totals { SameTotals (records accounts.old) (records accounts.new) }
-    ensures room { (room accounts.new ≡ room accounts.old) × (room trades.new ≡ room trades.old) }
-    ensures lender { (accounts.new.places.ghost_name ≡ accounts.old.places.ghost_name) × (trades.new.places.ghost_name ≡ trades.old.places.ghost_name) }
+    ensures accounts_places { SamePlaces accounts.old accounts.new }
+    ensures trades_places { SamePlaces trades.old trades.new }
 {
     check_entry(accounts, trades, ticket, trade)?;
     make_changes(accounts, trade.buyer, trade.seller, Change::bought(trade));
@@ -139,16 +120,10 @@ pub fn bust(
 ) -> Result<(), Fault>
     ensures outcome { Busts (first_fault (bust_checks (find_in ticket (records trades.old)) (records accounts.old))) ticket result (records accounts.old) (records accounts.new) (records trades.old) (records trades.new) }
     ensures totals { SameTotals (records accounts.old) (records accounts.new) }
-    ensures room { (room accounts.new ≡ room accounts.old) × (room trades.new ≡ room trades.old) }
-    ensures lender { (accounts.new.places.ghost_name ≡ accounts.old.places.ghost_name) × (trades.new.places.ghost_name ≡ trades.old.places.ghost_name) }
+    ensures accounts_places { SamePlaces accounts.old accounts.new }
+    ensures trades_places { SamePlaces trades.old trades.new }
 {
-    let Some(held) = trades.find(ticket) else {
-        return Err(Fault {
-            refusal: Refusal::NoSuchTrade,
-            account: 0,
-        });
-    };
-    let trade = held.value;
+    let trade = trades.find(ticket).ok_or(Refusal::NoSuchTrade)?.value;
     check_bust(accounts, trade)?;
     make_changes(
         accounts,

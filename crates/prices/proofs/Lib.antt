@@ -1,3 +1,2 @@
+pub mod Bearing
 pub mod Quotients
-pub mod Ranges
-pub mod Sized

@@ -3,7 +3,7 @@ ghost use Rattle.std.specs.Prelude.{◌≡◌, ◌≤◌, pos, ◌+ℤ◌, ◌*�
 ghost use Rattle.prices.specs.Cents.{cents as cents_of, rest as rest_of};
 
 // Ten-thousandths of a dollar in a cent.
-const CENT: i64 = 100;
+pub const CENT: i64 = 100;
 
 // The whole cents of an amount in ten-thousandths, rounded down below zero too, and its rest of 0 to 99.
 pub fn split(amount: i64) -> (i64, u8)

@@ -2,6 +2,7 @@
 ghost use Rattle.prices.specs.Figures.{CheckedFigures};
 ghost use Rattle.prices.specs.Laws.{RoundingLaws};
 
+#[tactic(auto, using(crate::proofs::Quotients::laws))]
 pub fn rounding_laws()
     ensures { RoundingLaws }
 {}

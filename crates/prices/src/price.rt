@@ -1,6 +1,6 @@
 // Prices, the mark of a close, and the accumulated return.
 ghost use Rattle.std.specs.Prelude.{◌≡◌, ◌+◌, ◌*◌, ◌^◌, ◌<◌, ◌≤◌, pos, ◌+ℤ◌, ◌-ℤ◌, ◌*ℤ◌, unsigned_abs};
-ghost use Rattle.prices.specs.Prices.{mark as mark_of, converted as converted_of, final as final_of, bearing as bearing_of, accrual as accrual_of};
+ghost use Rattle.prices.specs.Prices.{mark as mark_of, converted as converted_of, final as final_of, bearing as bearing_of, accrual as accrual_of, base_price};
 
 use crate::rounding::nearest_signed;
 use crate::variance::Variance;
@@ -10,23 +10,23 @@ use quantities::{DiscountFactor, Rate, Strike, Tick, Within};
 pub const BASE_PRICE: i64 = 10_000_000;
 
 // Hundred-millionths, the unit of a discount factor, in one.
-const WHOLE_FACTOR: i64 = 100_000_000;
+const WHOLE_FACTOR: u32 = 100_000_000;
 
 // Hundred-millionths, the unit of A, in a ten-thousandth, the unit of prices.
-const RETURN_UNITS: i64 = 10_000;
+const RETURN_UNITS: u32 = 10_000;
 
 // One a year, as a rate in hundredths of a percent, over 360 days.
-const RATE_YEAR: u64 = 3_600_000;
+const RATE_YEAR: u32 = 3_600_000;
 
 // A price, in ten-thousandths of a point.
-#[derive(Clone, Copy)]
+#[derive(Clone, Copy, PartialEq, Eq)]
 pub struct Price {
     pub value: i64,
     ghost ok: { unsigned_abs value ≤ 3400000000 },
 }
 
 // A, the return that variation margin has earned so far, in hundred-millionths of a point.
-#[derive(Clone, Copy)]
+#[derive(Clone, Copy, PartialEq, Eq)]
 pub struct AccumulatedReturn {
     pub value: i64,
     ghost ok: { unsigned_abs value ≤ 12000000000000 },
@@ -37,12 +37,13 @@ pub fn mark(bid: Tick, offer: Tick) -> Tick
     ensures { result.value ≡ mark_of bid.value offer.value }
 {
     Within {
-        value: (bid.value + offer.value + 1) / 2,
+        value: (bid.value + offer.value).div_ceil(2),
     }
 }
 
 impl Price {
     // The price of a variance k on a day with a discount factor.
+    #[tactic(auto, using(crate::proofs::Bearing::pricing))]
     pub fn converted(
         factor: DiscountFactor,
         variance: Variance,
@@ -52,20 +53,21 @@ impl Price {
         ensures value { result.value ≡ converted_of factor.value variance.value strike.value accumulated.value }
         ensures bearing { unsigned_abs (bearing_of result.value accumulated.value) ≤ 21000000005000 }
     {
-        let discounted = times(above(variance, strike), factor.value);
-        let whole = on_base(discounted, accumulated);
+        let gain = times(above(variance, strike), factor.value);
+        let less = accumulated.value * i64::from(RETURN_UNITS);
         Price {
-            value: nearest_signed(whole, WHOLE_FACTOR as u64),
+            value: nearest_signed(on_base(gain, less, WHOLE_FACTOR), WHOLE_FACTOR),
         }
     }
 
     // The final price, at the realised variance V.
+    #[tactic(auto, using(crate::proofs::Bearing::pricing))]
     pub fn final_price(realised: Variance, strike: Strike, accumulated: AccumulatedReturn) -> Price
         ensures { result.value ≡ final_of realised.value strike.value accumulated.value }
     {
-        let whole = on_final_base(above(realised, strike), accumulated);
+        let gain = above(realised, strike) * i64::from(RETURN_UNITS);
         Price {
-            value: nearest_signed(whole, RETURN_UNITS as u64),
+            value: nearest_signed(on_base(gain, accumulated.value, RETURN_UNITS), RETURN_UNITS),
         }
     }
 
@@ -82,7 +84,7 @@ impl Price {
         ensures value { result ≡ bearing_of self.value accumulated.value }
         ensures bound { unsigned_abs result ≤ 46100000000000 }
     {
-        (self.value - BASE_PRICE) * RETURN_UNITS + accumulated.value
+        (self.value - BASE_PRICE) * i64::from(RETURN_UNITS) + accumulated.value
     }
 }
 
@@ -94,22 +96,14 @@ fn above(variance: Variance, strike: Strike) -> i64
     variance.value as i64 - i64::from(strike.value)
 }
 
-// A discounted variance above the strike, less A, on the base price, over 10^8.
-fn on_base(discounted: i64, accumulated: AccumulatedReturn) -> i64
-    requires { unsigned_abs discounted ≤ 210000000000000000 }
-    ensures value { result ≡ discounted -ℤ accumulated.value *ℤ pos 10000 +ℤ pos 1000000000000000 }
-    ensures bound { unsigned_abs result ≤ 331000000000000000 }
+// The base price with a gain, less a return, in parts of a ten-thousandth.
+fn on_base(gain: i64, less: i64, parts: u32) -> i64
+    requires few { parts ≤ 100000000 }
+    requires room { unsigned_abs gain + unsigned_abs less ≤ 3300000000 * parts }
+    ensures value { result ≡ gain -ℤ less +ℤ base_price *ℤ pos parts }
+    ensures bound { unsigned_abs result ≤ 3310000000 * parts }
 {
-    discounted - accumulated.value * RETURN_UNITS + BASE_PRICE * WHOLE_FACTOR
-}
-
-// A variance above the strike, less A, on the base price, over 10^4.
-fn on_final_base(above: i64, accumulated: AccumulatedReturn) -> i64
-    requires { unsigned_abs above ≤ 2100000000 }
-    ensures value { result ≡ above *ℤ pos 10000 -ℤ accumulated.value +ℤ pos 100000000000 }
-    ensures bound { unsigned_abs result ≤ 33100000000000 }
-{
-    above * RETURN_UNITS - accumulated.value + BASE_PRICE * RETURN_UNITS
+    gain - less + BASE_PRICE * i64::from(parts)
 }
 
 // A signed number by an unsigned one.

@@ -11,7 +11,7 @@ const ONE: u64 = 10_000_000_000;
 const PLACES_DROPPED: u64 = 100_000_000;
 
 // R, the size of a logarithmic return, in units of 10^-10. No admitted pair has a larger one than the limit.
-#[derive(Clone, Copy)]
+#[derive(Clone, Copy, PartialEq, Eq)]
 pub struct Return {
     pub value: u64,
     ghost ok: { value ≤ 2876820718 },
@@ -33,8 +33,7 @@ impl Return {
         if !admits(before, after) {
             return None;
         }
-        let z = ratio(u64::from(before.value), u64::from(after.value));
-        Some(Return { value: series(z) })
+        Some(series(ratio(before, after)))
     }
 
     // U, the square of R, in units of 10^-12.
@@ -46,36 +45,48 @@ impl Return {
     }
 }
 
-// z, the distance of two values over their sum, to ten places.
-fn ratio(before: u64, after: u64) -> u64
-    requires limits { (1 ≤ before) × ((before ≤ 9999999) × (after ≤ 9999999)) }
-    requires near { 7 * distance_of before after ≤ before + after }
-    ensures value { result ≡ ratio_of (distance_of before after) (before + after) }
-    ensures bound { result ≤ 1428571428 }
-{
-    before.abs_diff(after) * ONE / (before + after)
+// z or a power of it, to ten places: at most a seventh.
+#[derive(Clone, Copy)]
+struct Power {
+    value: u64,
+    ghost ok: { value ≤ 1428571428 },
 }
 
-// The product of two numbers of ten places, to ten places.
-fn product(x: u64, y: u64) -> u64
-    requires { (x ≤ 1428571428) × (y ≤ 1428571428) }
-    ensures value { result ≡ product_of x y }
-    ensures bound { result ≤ x }
+impl Power {
+    // The product, to ten places: at most a seventh of the first, and a forty-ninth where the second is a square.
+    fn times(self, other: Power) -> Power
+        ensures value { result.value ≡ product_of self.value other.value }
+        ensures seventh { 7 * result.value ≤ self.value }
+        ensures square { other.value ≤ 204081632 → 49 * result.value ≤ self.value }
+    {
+        Power {
+            value: self.value * other.value / ONE,
+        }
+    }
+}
+
+// z, the distance of two values over their sum, to ten places.
+fn ratio(before: IndexValue, after: IndexValue) -> Power
+    requires { admitted before.value after.value ≡ true }
+    ensures { result.value ≡ ratio_of (distance_of before.value after.value) (before.value + after.value) }
 {
-    x * y / ONE
+    let (before, after) = (u64::from(before.value), u64::from(after.value));
+    Power {
+        value: before.abs_diff(after) * ONE / (before + after),
+    }
 }
 
 // Twice the sum of the first five odd powers of z, each over its exponent.
-fn series(z: u64) -> u64
-    requires { z ≤ 1428571428 }
-    ensures value { result ≡ series_of z (product_of z z) }
-    ensures bound { result ≤ 2876820718 }
+fn series(z: Power) -> Return
+    ensures { result.value ≡ series_of z.value (product_of z.value z.value) }
 {
     // w is the square of z, and c1 to c4 are its powers 3, 5, 7 and 9.
-    let w = product(z, z);
-    let c1 = product(z, w);
-    let c2 = product(c1, w);
-    let c3 = product(c2, w);
-    let c4 = product(c3, w);
-    2 * (z + c1 / 3 + c2 / 5 + c3 / 7 + c4 / 9)
+    let w = z.times(z);
+    let c1 = z.times(w);
+    let c2 = c1.times(w);
+    let c3 = c2.times(w);
+    let c4 = c3.times(w);
+    Return {
+        value: 2 * (z.value + c1.value / 3 + c2.value / 5 + c3.value / 7 + c4.value / 9),
+    }
 }

@@ -1,15 +1,8 @@
 // The quotient n / d, rounded.
 ghost use Rattle.std.specs.Prelude.{◌≡◌, ◌+◌, ◌*◌, ◌^◌, ◌<◌, ◌≤◌, unsigned_abs};
-ghost use Rattle.prices.specs.Rounding.{nearest as nearest_of, nearestℤ, up as up_of};
+ghost use Rattle.prices.specs.Rounding.{nearest as nearest_of, nearestℤ};
 
-// The least whole number not below n / d.
-pub(crate) fn up(n: u64, d: u64) -> u64
-    requires divisor { 0 < d }
-    requires room { n + d < 2 ^ 64 }
-    ensures { result ≡ up_of n d }
-{
-    (n + (d - 1)) / d
-}
+// The divisor is a plain number above 0: of a NonZeroU64 each caller would have to answer the None that making one may give.
 
 // The nearest whole number to n / d, halves up.
 pub(crate) fn nearest(n: u64, d: u64) -> u64
@@ -21,12 +14,12 @@ pub(crate) fn nearest(n: u64, d: u64) -> u64
 }
 
 // The nearest whole number to a signed n / d, halves away from zero.
-pub(crate) fn nearest_signed(n: i64, d: u64) -> i64
+pub(crate) fn nearest_signed(n: i64, d: u32) -> i64
     requires divisor { 0 < d }
-    requires room { unsigned_abs n + d < 2 ^ 61 }
+    requires room { unsigned_abs n < 2 ^ 60 }
     ensures value { result ≡ nearestℤ n d }
     ensures bound { 2 * (unsigned_abs result * d) ≤ 2 * unsigned_abs n + d }
 {
-    let size = nearest(n.unsigned_abs(), d) as i64;
+    let size = nearest(n.unsigned_abs(), u64::from(d)) as i64;
     if n < 0 { -size } else { size }
 }

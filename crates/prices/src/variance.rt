@@ -2,7 +2,7 @@
 ghost use Rattle.std.specs.Prelude.{◌≡◌, ◌+◌, ◌-◌, ◌*◌, ◌<◌, ◌≤◌, Some, None};
 ghost use Rattle.prices.specs.Variance.{volatility as volatility_of, variance_at, realised as realised_of, units as units_of};
 
-use crate::rounding::{nearest, up};
+use crate::rounding::nearest;
 use quantities::{ExpectedValues, Tick, Vega};
 
 // Trading days in a year, over which daily squares are a yearly variance.
@@ -18,7 +18,7 @@ const TICK_SIZE: u64 = 5;
 const HALF_VEGA: u64 = 50_000;
 
 // A variance, in ten-thousandths of a point.
-#[derive(Clone, Copy)]
+#[derive(Clone, Copy, PartialEq, Eq)]
 pub struct Variance {
     pub value: u64,
     ghost ok: { value ≤ 2100000000 },
@@ -39,7 +39,7 @@ impl Returns {
     pub fn variance_at(self, tick: Tick) -> Variance
         ensures { result.value ≡ variance_at self.expected.value self.count self.sum tick.value }
     {
-        let squares = self.to_come(tick) * SQUARES + TRADING_DAYS * self.sum;
+        let squares = self.to_come_squares(tick) * SQUARES + TRADING_DAYS * self.sum;
         Variance {
             value: nearest(squares, SQUARES * self.expected_returns()),
         }
@@ -55,25 +55,32 @@ impl Returns {
     }
 
     // The units of a trade, or none where no return is to come.
+    #[tactic(auto, using(crate::proofs::Quotients::up_is))]
     pub fn units(self, vega: Vega, tick: Tick) -> Option<u64>
         ensures { elim result [ None ↦ self.count + 1 ≡ self.expected.value | Some x ↦ (self.count + 1 < self.expected.value) × (x ≡ units_of self.expected.value self.count vega.value tick.value) ] }
     {
-        let expected = self.expected_returns();
-        if self.count == expected {
+        let to_come = self.to_come();
+        if to_come == 0 {
             return None;
         }
-        Some(up(
-            u64::from(vega.value) * HALF_VEGA * expected,
-            volatility(tick) * (expected - self.count),
-        ))
+        let vega = u64::from(vega.value) * HALF_VEGA * self.expected_returns();
+        Some(vega.div_ceil(volatility(tick) * to_come))
     }
 
     // v squared for each return to come.
-    fn to_come(self, tick: Tick) -> u64
+    fn to_come_squares(self, tick: Tick) -> u64
         ensures value { result ≡ volatility_of tick.value * volatility_of tick.value * (self.expected.value - 1 - self.count) }
         ensures bound { result ≤ 400000000 * (self.expected.value - 1 - self.count) }
     {
-        volatility(tick) * volatility(tick) * (self.expected_returns() - self.count)
+        let v = volatility(tick);
+        v * v * self.to_come()
+    }
+
+    // The returns to come, Ne - 1 - n.
+    fn to_come(self) -> u64
+        ensures { result ≡ self.expected.value - 1 - self.count }
+    {
+        self.expected_returns() - self.count
     }
 
     // Ne - 1.
@@ -86,7 +93,8 @@ impl Returns {
 
 // v, in hundredths of a volatility point.
 fn volatility(tick: Tick) -> u64
-    ensures { result ≡ volatility_of tick.value }
+    ensures value { result ≡ volatility_of tick.value }
+    ensures bound { (1 ≤ result) × (result ≤ 20000) }
 {
     TICK_SIZE * u64::from(tick.value)
 }

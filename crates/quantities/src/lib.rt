@@ -50,7 +50,7 @@ pub const LOWEST_RATE: u32 = 0;
 pub const HIGHEST_RATE: u32 = 2_000;
 
 // A number from LOW to HIGH.
-#[derive(Clone, Copy)]
+#[derive(Clone, Copy, PartialEq, Eq, PartialOrd, Ord, Debug)]
 pub struct Within<const LOW: u32, const HIGH: u32> {
     pub value: u32,
     ghost ok: { (LOW ≤ value) × (value ≤ HIGH) },

@@ -2,8 +2,7 @@
 #![tactic(auto)]
 
 use anyhow::anyhow;
-use contract::Contract;
-use dayfile::AccountList;
+use dayfile::Day;
 use dayfile::limits::LONGEST_FILE;
 use std::fmt::Write as _;
 use std::io::{Read, Write as _};
@@ -14,12 +13,10 @@ fn print_sheet(rt: &HostRuntime) -> anyhow::Result<()> {
     rt.stdin()
         .take(LONGEST_FILE as u64 + 1)
         .read_to_end(&mut bytes)?;
-    let mut contract = Contract::new();
-    let mut accounts = AccountList::new();
-    let mut lines = Vec::new(rt.alloc());
-    let end = dayfile::run(&bytes, &mut contract, &mut accounts, &mut lines);
+    let mut day = Day::new(rt.alloc());
+    let end = day.run(&bytes);
     let mut sheet = String::new(rt.alloc());
-    for line in lines.iter() {
+    for line in day.lines.iter() {
         writeln!(sheet, "{line}")?;
     }
     if let Err(fault) = end {

@@ -1,9 +1,9 @@
 pub mod Elements
-pub mod Halves
 pub mod Laws
 pub mod Memory
 pub mod Order
 pub mod Places
+pub mod Search
 pub mod Shifts
 pub mod Sums
 pub mod Told

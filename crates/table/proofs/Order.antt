@@ -1,11 +1,11 @@
 -- Keys that rise: put and take keep the order, and what it says of find.
-use Rattle.std.proofs.Common.{◌≡◌, ℕ, zero, suc, ◌<◌, ◌≤◌, true, List, [], ◌∷◌, take, set, Some, None, refl, ap, subst, arith}
+use Rattle.std.proofs.Common.{◌≡◌, ℕ, zero, suc, ◌<◌, ◌≤◌, true, List, [], ◌∷◌, map, take, Some, None, refl, ap, subst, arith}
 use Rattle.std.specs.List.{slice_get}
 use Rattle.std.proofs.lemmas.List.{take-take}
 use Rattle.std.proofs.lemmas.Bool.{and_parts}
 use Rattle.std.proofs.lemmas.Bool.Decides.{nat_tests}
 use Rattle.table.specs.declared.keyed.Keyed.{Keyed}
-use Rattle.table.specs.Records.{find_in, put_in, take_out}
+use Rattle.table.specs.Records.{find_in, key_of, put_in, take_out}
 use Rattle.table.specs.Rising.{above, rising}
 
 module _ {V : Type 0} where
@@ -54,6 +54,24 @@ module _ {V : Type 0} where
   pub rising_fewer : (m n : ℕ) (ps : List (Keyed V)) → m ≤ n → rising (take n ps) ≡ true → rising (take m ps) ≡ true
   rising_fewer m n ps le h = subst (λ xs. rising xs ≡ true) (take-take m n ps le) (rising_prefix m (take n ps) h)
 
+  -- the order is told by the keys
+  above_keys : (k : ℕ) (xs ys : List (Keyed V)) → map key_of xs ≡ map key_of ys → above k xs ≡ above k ys
+  above_keys k [] [] e = refl
+  above_keys k [] (y ∷ ys) e = grind (arith, nat_tests)
+  above_keys k (x ∷ xs) [] e = grind (arith, nat_tests)
+  above_keys k (x ∷ xs) (y ∷ ys) e = let ih = above_keys k xs ys cc in let head : x.key ≡ y.key = cc in grind (arith, nat_tests)
+
+  pub rising_keys : (xs ys : List (Keyed V)) → map key_of xs ≡ map key_of ys → rising xs ≡ rising ys
+  rising_keys [] [] e = refl
+  rising_keys [] (y ∷ ys) e = grind (arith, nat_tests)
+  rising_keys (x ∷ xs) [] e = grind (arith, nat_tests)
+  rising_keys (x ∷ xs) (y ∷ ys) e =
+      let rest : map key_of xs ≡ map key_of ys = cc in
+      let ih = rising_keys xs ys rest in
+      let up = above_keys x.key xs ys rest in
+      let head : x.key ≡ y.key = cc in
+      grind (arith, nat_tests)
+
   -- ---- what a rising list finds
   pub find_above : (k : ℕ) (xs : List (Keyed V)) → above k xs ≡ true → find_in k xs ≡ None
   find_above k [] h = refl
@@ -85,15 +103,6 @@ module _ {V : Type 0} where
   find_nth zero x (y ∷ xs) h e = grind (arith, nat_tests)
   find_nth (suc i) x (y ∷ xs) h e =
       let ih = find_nth i x xs in
-      let up = above_nth y.key i x xs in
-      grind (arith, nat_tests)
-
-  -- a put of the key at a place writes to that place
-  pub put_nth : (i : ℕ) (x r : Keyed V) (xs : List (Keyed V)) → rising xs ≡ true → slice_get xs i ≡ Some x → r.key ≡ x.key → put_in r xs ≡ set xs i r
-  put_nth i x r [] h e same = grind (arith, nat_tests)
-  put_nth zero x r (y ∷ xs) h e same = grind (arith, nat_tests)
-  put_nth (suc i) x r (y ∷ xs) h e same =
-      let ih = put_nth i x r xs in
       let up = above_nth y.key i x xs in
       grind (arith, nat_tests)
 

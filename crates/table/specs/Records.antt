@@ -1,6 +1,9 @@
 -- What find, put, take and set do with the list of records, in rising key, that a table holds; and sums over it.
-use Rattle.std.specs.Prelude.{ℕ, zero, suc, cond, List, [], ◌∷◌, map, ℤ, pos, ◌+ℤ◌, Some, None, Option, ◌==◌, nat_lt}
+use Rattle.std.specs.Prelude.{◌≡◌, ℕ, zero, suc, cond, List, [], ◌∷◌, map, ℤ, pos, ◌+ℤ◌, Some, None, Option, ◌==◌, nat_lt}
 use Rattle.table.specs.declared.keyed.Keyed.{Keyed}
+
+abbrev pub key_of : {V : Type 0} → Keyed V → ℕ
+key_of x = x.key
 
 -- the record of the key k
 abbrev pub find_in : {V : Type 0} → ℕ → List (Keyed V) → Option (Keyed V)
@@ -26,6 +29,10 @@ set_in (suc i) v (x ∷ xs) = x ∷ set_in i v xs
 -- the record with f of its value; its key stays
 abbrev pub revalued : {V : Type 0} → (V → V) → Keyed V → Keyed V
 revalued f x = record { key = x.key; value = f x.value }
+
+-- each result that a call may give, by what it is called at, is that of g
+abbrev pub Computes : {V : Type 0} → (V → V → Type 0) → (V → V) → Type 0
+Computes {V} gives g = (v w : V) → gives v w → w ≡ g v
 
 abbrev pub each_value : {V : Type 0} → (V → V) → List (Keyed V) → List (Keyed V)
 each_value f xs = map (revalued f) xs

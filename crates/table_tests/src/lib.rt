@@ -2,18 +2,14 @@
 #![tactic(auto)]
 
 ghost use Rattle.std.specs.Prelude.{◌≡◌, min, [], ◌∷◌, is_ok, if◌then◌else◌};
-ghost use Rattle.table.specs.Records.{put_in};
-ghost use Rattle.table.specs.View.{laid, memory, records, room};
+ghost use Rattle.table.specs.Records.{each_value, put_in};
+ghost use Rattle.table.specs.View.{SamePlaces, laid, memory, records, room};
 ghost use Rattle.table_tests.specs.Entering.{accounts_answer, enter_answer};
+ghost use Rattle.table_tests.specs.Costs.{costing};
 
+use faults::{Fault, Refusal, require};
 use positions::{Account, Trade};
 use table::{Full, Keyed, Stored, Table};
-
-#[derive(Clone, Copy, PartialEq, Eq, Debug)]
-pub enum Refused {
-    NoAccountPlace(u32),
-    NoTradePlace,
-}
 
 // Whether the buyer and then the seller have places; else the first that has none.
 fn check_accounts(
@@ -21,22 +17,19 @@ fn check_accounts(
     limit: usize,
     buyer: Keyed<Account>,
     seller: Keyed<Account>,
-) -> Result<(), Refused>
+) -> Result<(), Fault>
     ensures { result ≡ accounts_answer (min (room accounts.now) limit) buyer seller (records accounts.now) }
 {
-    let free = accounts
-        .capacity()
-        .min(limit)
-        .saturating_sub(accounts.count());
-    let buyer_new = accounts.find(buyer.key).is_none();
-    let seller_new = accounts.find(seller.key).is_none() & (buyer.key != seller.key);
-    if buyer_new & (free == 0) {
-        return Err(Refused::NoAccountPlace(buyer.key));
-    }
-    if seller_new & (free <= buyer_new as usize) {
-        return Err(Refused::NoAccountPlace(seller.key));
-    }
-    Ok(())
+    let places = accounts.capacity().min(limit);
+    require(
+        accounts.has_place(buyer.key, places),
+        Refusal::NoAccountPlace.at(buyer.key),
+    )?;
+    let taken = usize::from(accounts.find(buyer.key).is_none());
+    require(
+        (seller.key == buyer.key) | accounts.has_place(seller.key, places - taken),
+        Refusal::NoAccountPlace.at(seller.key),
+    )
 }
 
 // Keeps the two accounts of a trade and the trade, at most `limit` places of each table being used.
@@ -48,22 +41,34 @@ pub fn enter(
     buyer: Keyed<Account>,
     seller: Keyed<Account>,
     trade: Keyed<Trade>,
-) -> Result<(), Refused>
+) -> Result<(), Fault>
     ensures answer { result ≡ enter_answer (min (room accounts.old) limit) (min (room trades.old) limit) buyer seller trade (records accounts.old) (records trades.old) }
     ensures accounts { records accounts.new ≡ (if is_ok result then put_in seller (put_in buyer (records accounts.old)) else records accounts.old) }
     ensures trades { records trades.new ≡ (if is_ok result then put_in trade (records trades.old) else records trades.old) }
     ensures memories { (memory accounts.new ≡ (if is_ok result then laid (records accounts.new) (memory accounts.old) else memory accounts.old)) × (memory trades.new ≡ (if is_ok result then laid (records trades.new) (memory trades.old) else memory trades.old)) }
-    ensures rooms { (room accounts.new ≡ room accounts.old) × (room trades.new ≡ room trades.old) }
-    ensures lenders { (accounts.new.places.ghost_name ≡ accounts.old.places.ghost_name) × (trades.new.places.ghost_name ≡ trades.old.places.ghost_name) }
+    ensures places { SamePlaces accounts.old accounts.new × SamePlaces trades.old trades.new }
 {
     check_accounts(accounts, limit, buyer, seller)?;
-    if !trades.has_place(trade.key, limit) {
-        return Err(Refused::NoTradePlace);
-    }
+    require(trades.has_place(trade.key, limit), Refusal::NoTradePlace)?;
     let _ = accounts.put(buyer);
     let _ = accounts.put(seller);
     let _ = trades.put(trade);
     Ok(())
+}
+
+// The account at another cost.
+fn at_cost(account: Account, cost: i64) -> Account
+    ensures { result ≡ costing cost account }
+{
+    Account { cost, ..account }
+}
+
+// Sets the cost of every account, by a closure that captures it.
+pub fn set_costs(accounts: &mut Table<'_, Account>, cost: i64)
+    ensures records { records accounts.new ≡ each_value (costing cost) (records accounts.old) }
+    ensures places { SamePlaces accounts.old accounts.new }
+{
+    accounts.map_values(|account| at_cost(account, cost));
 }
 
 // What the lender holds once the table is gone: the record in the first place, if there is one, and the rest as it was.

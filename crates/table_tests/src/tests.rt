@@ -1,15 +1,19 @@
 use super::*;
 
-// An account that holds some units.
-fn account(number: u32, units: i64) -> Keyed<Account> {
+// An account that holds some units, at a cost.
+fn account_at(number: u32, units: i64, cost: i64) -> Keyed<Account> {
     Keyed {
         key: number,
         value: Account {
             units,
             units_at_close: 0,
-            cost: 0,
+            cost,
         },
     }
+}
+
+fn account(number: u32, units: i64) -> Keyed<Account> {
+    account_at(number, units, 0)
 }
 
 // A trade of accounts 101 and 102.
@@ -27,16 +31,11 @@ fn trade(ticket: u32, units: u32) -> Keyed<Trade> {
 
 // Whether the records have just these keys, in this order.
 fn has_keys<V: Copy>(table: &Table<'_, V>, keys: &[u32]) -> bool {
-    let records = table.records();
-    if records.len() != keys.len() {
-        return false;
-    }
-    for place in 0..keys.len() {
-        if records[place].key != keys[place] {
-            return false;
-        }
-    }
-    true
+    table
+        .records()
+        .iter()
+        .map(|record| record.key)
+        .eq(keys.iter().copied())
 }
 
 #[test]
@@ -109,6 +108,18 @@ fn values_set_in_place(rt: HostRuntime) {
 }
 
 #[test]
+fn every_cost_set(rt: HostRuntime) {
+    let mut places = [account(9, 9); 3];
+    let mut table = Table::new(&mut places);
+    assert_eq!(rt; table.put(account(102, -250)), Ok(Stored::Added));
+    assert_eq!(rt; table.put(account(101, 250)), Ok(Stored::Added));
+    set_costs(&mut table, 70);
+    assert_eq!(rt; table.find(101), Some(account_at(101, 250, 70)));
+    assert_eq!(rt; table.at(1), Some(account_at(102, -250, 70)));
+    assert_eq!(rt; places[2], account(9, 9));
+}
+
+#[test]
 fn memory_beyond_the_records(rt: HostRuntime) {
     let mut places = [account(9, 9); 4];
     let mut table = Table::new(&mut places[0..3]);
@@ -160,7 +171,7 @@ fn entering_checks_first(rt: HostRuntime) {
         account(103, -1),
         trade(2, 1),
     );
-    assert_eq!(rt; refused, Err(Refused::NoAccountPlace(103)));
+    assert_eq!(rt; refused, Err(Refusal::NoAccountPlace.at(103)));
     assert!(rt; has_keys(&accounts, &[101, 102]));
     assert!(rt; has_keys(&trades, &[1]));
 }

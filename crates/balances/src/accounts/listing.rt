@@ -2,11 +2,10 @@ ghost use Rattle.std.specs.Prelude.{◌≡◌, ℕ, []};
 ghost use Rattle.std.specs.List.{list_all};
 ghost use Rattle.ledger.specs.Limits.{admitted};
 ghost use Rattle.faults.specs.Checks.{verdict};
-ghost use Rattle.balances.specs.Lists.{Adds, list_fault};
-ghost use Rattle.balances.specs.Accounts.{Finds, Lists, listed};
+ghost use Rattle.balances.specs.Lists.{Adds, has, list_fault};
+ghost use Rattle.balances.specs.Accounts.{Lists, listed};
 
 use super::Accounts;
-use crate::place::Place;
 use arrayvec::ArrayVec;
 use faults::{Fault, Refusal, require};
 use ledger::limits::is_admitted;
@@ -42,19 +41,18 @@ impl Accounts {
         self.numbers.as_slice()
     }
 
-    // Where an account stands.
-    pub fn place(&self, account: u32) -> Option<Place>
-        ensures { Finds (listed self.now) account result }
+    // Whether an account is one of them.
+    pub fn has(&self, account: u32) -> bool
+        ensures { result ≡ has (listed self.now) account }
     {
-        let index = self.numbers().iter().position(|number| *number == account)?;
-        Some(Place { index })
+        self.numbers().contains(&account)
     }
 
     // Adds an account unless it is listed already.
     pub fn add(&mut self, account: u32) -> Result<(), Fault>
         ensures { Adds (listed self.old) account result (listed self.new) }
     {
-        if self.place(account).is_some() {
+        if self.has(account) {
             return Ok(());
         }
         require(!self.numbers.is_full(), Refusal::NoAccountPlace.at(account))?;

@@ -1,46 +1,57 @@
-ghost use Rattle.std.specs.Prelude.{◌≡◌, ℕ, length, replicate, slice_index_or, slice_set};
-ghost use Rattle.std.specs.Borrow.{sem, follows};
+ghost use Rattle.std.specs.Prelude.{◌≡◌, ℕ, cond, Some, None, option_copied, option_map, slice_get};
+ghost use Rattle.std.specs.Borrow.{sem, LendsIf};
 ghost use Rattle.balances.specs.contracts.rows.Rows.{the_row};
-ghost use Rattle.balances.specs.Accounts.{Finds, listed};
-ghost use Rattle.balances.specs.Lists.{has, on_list};
-ghost use Rattle.balances.specs.Places.{places};
+ghost use Rattle.balances.specs.Lists.{on_list};
+ghost use Rattle.balances.specs.Lookup.{kept, with_kept, with_value};
 
-use super::Rows;
+use super::{Row, Rows};
 use crate::accounts::Accounts;
-use crate::place::{PLACES, Place};
+use arrayvec::ArrayVec;
 
 impl<R> Rows<R> {
-    // A table of the accounts of a list, each with the same row. A refused list makes a table of no account.
-    pub fn new(list: &[u32], row: R) -> Rows<R>
+    // A table of the accounts of a list, which keeps the same of each. A refused list makes a table of no account.
+    pub fn new(list: &[u32], value: R) -> Rows<R>
     where
-        R: Copy,
-        ensures accounts { (a : ℕ) → has (listed result.accounts) a ≡ on_list list.now a }
-        ensures rows { result.rows ≡ replicate places row }
+        R: Copy + Default,
+        ensures { (a : ℕ) → kept result.rows.items a ≡ cond (on_list list.now a) (Some value) None }
     {
-        Rows {
-            accounts: Accounts::of(list).unwrap_or(Accounts::new()),
-            rows: [row; PLACES],
+        let accounts = Accounts::of(list).unwrap_or(Accounts::new());
+        let mut rows = ArrayVec::new();
+        for account in accounts.numbers() {
+            rows.push(Row {
+                account: *account,
+                value,
+            });
         }
+        Rows { rows }
     }
 
-    // Where an account stands.
-    pub fn place(&self, account: u32) -> Option<Place>
-        ensures { Finds (listed self.now.accounts) account result }
+    // What it keeps of an account.
+    pub fn find(&self, account: u32) -> Option<&R>
+        ensures { option_copied result ≡ kept self.now.rows.items account }
     {
-        self.accounts.place(account)
+        let row = self.rows.iter().find(|row| row.account == account)?;
+        Some(&row.value)
     }
 
-    pub fn at(&self, place: Place) -> &R
-        ensures value { result.now ≡ slice_index_or self.now.rows place.index result.now }
-        ensures long { length self.now.rows ≡ places }
+    // Lends what it keeps of an account.
+    pub fn find_mut(&mut self, account: u32) -> Option<&mut R>
+        ensures* lends { sem 𝓛 (LendsIf (the_row R.row) R.row self.entry result (λ w. record { rows = record { items = with_kept self.old.rows.items account w } }) self.old) }
+        ensures value { option_map (λ r. r.now) result ≡ kept self.old.rows.items account }
     {
-        &self.rows[place.index]
+        // With a `?` here the loan has no proof.
+        let Some(index) = self.rows.iter().position(|row| row.account == account) else {
+            return None;
+        };
+        self.at_mut(index)
     }
 
-    // Lends one row.
-    pub fn row(&mut self, place: Place) -> &mut R
-        ensures* { sem 𝓛 (follows (the_row R.row) R.row self.entry.ghost_name result.ghost_name (λ w. record { accounts = self.old.accounts; rows = slice_set self.old.rows place.index w; ok = self.old.ok })) }
+    // Lends what it keeps in one of its rows.
+    fn at_mut(&mut self, index: usize) -> Option<&mut R>
+        ensures* lends { sem 𝓛 (LendsIf (the_row R.row) R.row self.entry result (λ w. record { rows = record { items = with_value self.old.rows.items index w } }) self.old) }
+        ensures value { option_map (λ r. r.now) result ≡ option_map (λ row. row.value) (slice_get self.old.rows.items index) }
     {
-        &mut self.rows[place.index]
+        let row = self.rows.get_mut(index)?;
+        Some(&mut row.value)
     }
 }

@@ -31,8 +31,7 @@ impl<'a, V: Copy> Table<'a, V> {
         ensures records { result.now ≡ records self.now }
         ensures within { length result.now ≤ room self.now }
     {
-        let places = &*self.places;
-        &places[0..self.count]
+        &self.places[..self.count]
     }
 
     // How many records the table holds.
@@ -47,53 +46,29 @@ impl<'a, V: Copy> Table<'a, V> {
     pub fn at(&self, place: usize) -> Option<Keyed<V>>
         ensures { result ≡ slice_get (records self.now) place }
     {
-        let places = &*self.places;
-        if place < self.count {
-            Some(places[place])
-        } else {
-            None
-        }
+        self.records().get(place).copied()
     }
 
-    // The place of the record of a key, or else the place where it would stand, by halving the places that are left.
+    // The place of the record of a key, or else the place where it would stand.
     pub(super) fn seek(&self, key: u32) -> Result<usize, usize>
         ensures { MatchResult result (Stands key (records self.now)) (Lacks key (records self.now)) }
     {
-        let places = &*self.places;
-        let mut low = 0;
-        let mut high = self.count;
-        while low < high {
-            let middle = low + (high - low) / 2;
-            let there = places[middle].key;
-            if there == key {
-                return Ok(middle);
-            }
-            if there < key {
-                low = middle + 1;
-            } else {
-                high = middle;
-            }
-        }
-        Err(low)
+        self.records()
+            .binary_search_by_key(&key, |record| record.key)
     }
 
     // The record of a key.
     pub fn find(&self, key: u32) -> Option<Keyed<V>>
         ensures { result ≡ find_in key (records self.now) }
     {
-        match self.seek(key) {
-            Ok(place) => self.at(place),
-            Err(_) => None,
-        }
+        let place = self.seek(key).ok()?;
+        self.at(place)
     }
 
     // Whether there is a place for this key, at most `limit` places being used.
     pub fn has_place(&self, key: u32, limit: usize) -> bool
         ensures { result ≡ place_for (min (room self.now) limit) key (records self.now) }
     {
-        match self.seek(key) {
-            Ok(_) => true,
-            Err(_) => self.count < self.capacity().min(limit),
-        }
+        self.find(key).is_some() || self.count < self.capacity().min(limit)
     }
 }

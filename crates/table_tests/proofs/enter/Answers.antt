@@ -1,40 +1,40 @@
-use Rattle.std.proofs.Common.{◌≡◌, ◌≤◌, min, true, length, Ok, sym, ap, ◌∙◌, arith}
-use Rattle.std.proofs.lemmas.Bool.Decides.{nat_tests}
+use Rattle.std.proofs.Common.{◌≡◌, ℕ, ◌≤◌, Bool, true, false, cond, List, [], ◌∷◌, ◌++◌, length, is_ok, Err, sym, refl, ap, ◌∙◌, arith}
+use Rattle.std.proofs.lemmas.Slice.{drop-append-drop}
+use Rattle.std.proofs.lemmas.Result.{err_from_is_err_and}
+use Rattle.faults.specs.declared.Fault.{Fault}
+use Rattle.faults.specs.declared.Refusal.TheVariants.{NoTradePlace}
+use Rattle.faults.specs.Checks.{◌else◌, first_fault, verdict}
+use Rattle.faults.proofs.Rows.{first_failed, verdict_failed}
+use Rattle.positions.specs.declared.records.Account.{Account}
+use Rattle.positions.specs.declared.records.Trade.{Trade}
+use Rattle.table.specs.declared.keyed.Keyed.{Keyed}
 use Rattle.table.specs.Records.{put_in}
-use Rattle.table.specs.View.{laid, memory, place_for, records, room}
-use Rattle.table.proofs.Laws.{length-put, place_within, put_lands}
-use Rattle.table.proofs.Memory.{laid-laid}
-use Rattle.table_tests.specs.Entering.{accounts_answer}
-use Rattle.table_tests.proofs.Seats.{buyer_seated, seller_seated}
+use Rattle.table.specs.View.{laid, place_for, records}
+use Rattle.table.proofs.Laws.{length-put}
+use Rattle.table_tests.specs.Entering.{accounts_checks, accounts_answer, enter_answer}
 use Rattle.table_tests.proofs.enter.Goals as goal
 
-pub returns : goal.returns
-returns c =
-    let a = c.args.accounts.now in
-    let d = c.args.trades.now in
-    let limit = c.args.limit in
-    let b = c.args.buyer in
-    let s = c.args.seller in
-    let places = min (room a) limit in
-    let t1 = c.put.new.self in
-    let t2 = c.put-2.new.self in
-    let t3 = c.put-3.new.self in
-    let ok : Ok tt ≡ accounts_answer places b s (records a) = c.in_ok-check_accounts.ensures in
-    let third : true ≡ place_for (min (room d) limit) c.args.trade.key (records d) = c.if-not-has_place.ensures in
-    let seat_b = place_within (room a) limit b.key (records a) (buyer_seated places b s (records a) ok) in
-    let seat_s = place_within (room a) limit s.key (put_in b (records a)) (seller_seated places b s (records a) ok) in
-    let one = put_lands (room a) b (records a) (records t1) c.put.result c.put.ensures.answer c.put.ensures.records seat_b in
-    let seat = ap (λ n. place_for n s.key (records t1)) c.put.ensures.room ∙ ap (place_for (room a) s.key) one ∙ seat_s in
-    let two = put_lands (room t1) s (records t1) (records t2) c.put-2.result c.put-2.ensures.answer c.put-2.ensures.records seat in
-    let more : length (records t1) ≤ length (records t2) = let l = length-put s (records t1) in let e = ap length two in omega arith in
-    record {
-      answer = grind (arith, nat_tests);
-      accounts = two ∙ ap (put_in s) one;
-      trades = put_lands (room d) c.args.trade (records d) (records t3) c.put-3.result c.put-3.ensures.answer c.put-3.ensures.records (place_within (room d) limit c.args.trade.key (records d) (sym third));
-      memories = (
-        c.put-2.ensures.memory ∙ ap (laid (records t2)) c.put.ensures.memory ∙ laid-laid (records t1) (records t2) (memory a) more,
-        c.put-3.ensures.memory,
-      );
-      rooms = (c.put-2.ensures.room ∙ c.put.ensures.room, c.put-3.ensures.room);
-      lenders = (c.put-2.ensures.lender ∙ c.put.ensures.lender, c.put-3.ensures.lender);
-    }
+unseated : (m n : ℕ) (b s : Keyed Account) (t : Keyed Trade) (xs : List (Keyed Account)) (ts : List (Keyed Trade)) (fault : Fault) → Err fault ≡ accounts_answer m b s xs → Err fault ≡ enter_answer m n b s t xs ts
+unseated m n b s t xs ts fault e =
+    let first = verdict_failed tt (first_fault (accounts_checks m b s xs)) fault (sym e) in
+    ap (verdict tt) (sym (first_failed (accounts_checks m b s xs) ((place_for n t.key ts else NoTradePlace) ∷ []) fault first))
+
+pub returns-in_err-check_accounts-clause-answer : goal.returns-in_err-check_accounts-clause-answer
+returns-in_err-check_accounts-clause-answer c =
+    let p = err_from_is_err_and c.from_residual.result c.from_residual.ensures.1 in
+    rw (p.1, p.2) (unseated _ _ c.args.buyer c.args.seller c.args.trade (records c.args.accounts.now) (records c.args.trades.now) _ c.in_err-check_accounts.ensures)
+
+-- records laid over those laid before, which are no more
+laid_again : (xs ys ps : List (Keyed Account)) → length xs ≤ length ys → laid ys (laid xs ps) ≡ laid ys ps
+laid_again xs ys ps h = ap (λ rest. ys ++ rest) (drop-append-drop (length xs) ps xs (length ys) h refl)
+
+longer : (put : Bool) (r : Keyed Account) (xs : List (Keyed Account)) → length xs ≤ length (cond put (put_in r xs) xs)
+longer true r xs = let l = length-put r xs in omega arith
+longer false r xs = omega arith
+
+pub returns-clause-memories : goal.returns-clause-memories
+returns-clause-memories c =
+    let one = records c.put.new.self in
+    let two = records c.put-2.new.self in
+    let more : length one ≤ length two = rw c.put-2.ensures.records (longer (is_ok c.put-2.result) c.args.seller one) in
+    (c.put-2.ensures.memory ∙ ap (laid two) c.put.ensures.memory ∙ laid_again one two _ more, c.put-3.ensures.memory)

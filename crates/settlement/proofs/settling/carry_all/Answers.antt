@@ -21,9 +21,9 @@ loop-place-preserved c =
     elim c.match-at.branch [
       | in-Some w ↦
           (let here = sym c.at.ensures ∙ w.in-Some.is in (
-            ap room w.accounts-is ∙ w.set_at.ensures.room ∙ inv.0,
+            ap room w.accounts-is ∙ w.set_at.ensures.places.room ∙ inv.0,
             ap records w.accounts-is ∙ w.set_at.ensures.records ∙ ap (λ (x : Keyed Account). set_in i x.value ys) w.carried_over.ensures ∙ next end xs ys i below inv.1 w.in-Some.«record» here,
-            ap (λ t. t.places.ghost_name) w.accounts-is ∙ w.set_at.ensures.lender ∙ inv.2,
+            ap (λ t. t.places.ghost_name) w.accounts-is ∙ w.set_at.ensures.places.lender ∙ inv.2,
           ))
       | in_default w ↦ (
         ap room w.accounts-is ∙ inv.0,

@@ -1,9 +1,9 @@
-use Rattle.std.proofs.Common.{◌≡◌, ◌≤◌, length, get_or, sym, refl, ap, ◌∙◌}
+use Rattle.std.proofs.Common.{◌≡◌, ◌≤◌, length, sym, refl, ap, ◌∙◌}
 use Rattle.std.proofs.lemmas.List.{take_all}
 use Rattle.std.proofs.lemmas.Result.{err_from_is_err_and}
 use Rattle.balances.specs.Accounts.{listed}
-use Rattle.balances.specs.Lists.{add_new, different}
-use Rattle.balances.proofs.Listing.{list_bad, list_good, list_full, sixty_fifth, step}
+use Rattle.balances.specs.Lists.{different}
+use Rattle.balances.proofs.Listing.{list_bad, list_good, list_full, sixty_fifth}
 use Rattle.balances.proofs.accounts.Accounts.of.Goals as goal
 
 pub returns-in_err-require : goal.returns-in_err-require
@@ -18,10 +18,6 @@ returns-in_err-add c =
     let e = c.in_err-add.ensures in
     let w = sixty_fifth c.args.list.now _ c.loop-account.account-index _ c.loop-account-test.true refl (sym c.loop-account.invariant) e.1 e.2 in
     rw (p.1, p.2, e.0) (list_full _ _ (sym c.are_admitted.ensures ∙ c.in_ok-require.ensures) w.0 w.1)
-
-pub loop-account-preserved : goal.loop-account-preserved
-loop-account-preserved c =
-    c.in_ok-add.ensures ∙ ap (λ t. add_new t (get_or c.args.list.now c.loop-account.account-index 0)) c.loop-account.invariant ∙ sym (step c.args.list.now c.loop-account.account-index c.loop-account-test.true)
 
 pub returns : goal.returns
 returns c =

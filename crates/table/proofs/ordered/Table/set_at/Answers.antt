@@ -1,12 +1,12 @@
-use Rattle.std.proofs.Common.{ℕ, ◌<◌, length, get_or, set, sym, refl, ap, ◌∙◌, arith}
+use Rattle.std.proofs.Common.{ℕ, ◌<◌, get_or, set, sym, ap, ◌∙◌, arith}
 use Rattle.std.proofs.lemmas.List.{get_or-take}
-use Rattle.std.proofs.lemmas.Bool.{lt-ltb, le-ltb}
 use Rattle.table.specs.declared.keyed.Keyed.{Keyed}
 use Rattle.table.specs.declared.ordered.Table.{Table}
 use Rattle.table.specs.Records.{set_in}
-use Rattle.table.specs.View.{laid, memory, records, room}
-use Rattle.table.proofs.Memory.{Lays, laid-records, laid-set, length-records, now_memory, now_records, now_room, now_sound}
-use Rattle.table.proofs.Values.{length-set_in, rising-set, set_in_past, set_value}
+use Rattle.table.specs.View.{laid, memory, records}
+use Rattle.table.proofs.Memory.{Lays, laid-set, length-records, now_memory, now_records, now_sound}
+use Rattle.table.proofs.Order.{rising_keys}
+use Rattle.table.proofs.Values.{keys-set, length-set_in, set_in_past, set_value}
 use Rattle.table.proofs.ordered.Table.set_at.Goals as goal
 
 -- a value written at a place below the count
@@ -26,29 +26,16 @@ pub invariant_of-self : goal.invariant_of-self
 invariant_of-self g c =
     let t = c.args.self.now in
     let w = written t c.args.place c.args.value c.index-self-place.result c.if-place-self.true in
-    now_sound w (rising-set c.args.value c.args.place (records t) ∙ t.order)
+    now_sound w (rising_keys _ (records t) (keys-set c.args.value c.args.place (records t)) ∙ t.order)
 
-pub returns-then-place-self : goal.returns-then-place-self
-returns-then-place-self g c =
+pub returns-then-place-self-clause-records : goal.returns-then-place-self-clause-records
+returns-then-place-self-clause-records g c = now_records (written c.args.self.now c.args.place c.args.value c.index-self-place.result c.if-place-self.true)
+
+pub returns-then-place-self-clause-memory : goal.returns-then-place-self-clause-memory
+returns-then-place-self-clause-memory g c = now_memory (written c.args.self.now c.args.place c.args.value c.index-self-place.result c.if-place-self.true)
+
+pub returns-clause-records : goal.returns-clause-records
+returns-clause-records g c =
     let t = c.args.self.now in
     let n = length-records t in
-    let w = written t c.args.place c.args.value c.index-self-place.result c.if-place-self.true in
-    record {
-      answer = sym (lt-ltb c.args.place (length (records t)) (omega arith));
-      records = now_records w;
-      memory = now_memory w;
-      room = now_room w;
-      lender = refl {a = t.places.ghost_name};
-    }
-
-pub returns : goal.returns
-returns g c =
-    let t = c.args.self.now in
-    let n = length-records t in
-    record {
-      answer = sym (le-ltb c.args.place (length (records t)) (omega arith));
-      records = sym (set_in_past c.args.value c.args.place (records t) (omega arith));
-      memory = sym (laid-records t);
-      room = refl {a = room t};
-      lender = refl {a = t.places.ghost_name};
-    }
+    sym (set_in_past c.args.value c.args.place (records t) (omega arith))

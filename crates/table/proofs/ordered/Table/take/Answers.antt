@@ -1,40 +1,28 @@
-use Rattle.std.proofs.Common.{Some, sym, refl, ap, ◌∙◌, arith}
-use Rattle.std.proofs.lemmas.List.{get_or-take}
-use Rattle.table.specs.View.{memory, records, room}
-use Rattle.table.proofs.Memory.{laid-records, length-records}
-use Rattle.table.proofs.Places.{find_lacks, find_stands, take_lacks}
+use Rattle.std.proofs.Common.{sym, ◌∙◌}
+use Rattle.table.specs.View.{records}
+use Rattle.table.proofs.Places.{find_stands, no_place, place_kept}
 use Rattle.table.proofs.Told.{after_take}
 use Rattle.table.proofs.ordered.Table.take.Goals as goal
 
-pub returns-in-Ok : goal.returns-in-Ok
-returns-in-Ok g c =
-    let t = c.args.self.now in
-    let key = c.args.key in
-    let place = c.in-Ok.place in
-    let s = c.in-Ok.ensures in
-    let n = length-records t in
-    let x = c.index-self-place.result in
-    let after = c.remove.ensures.records in
-    record {
-      answer = ap Some (sym (get_or-take t.count (memory t) place x (omega (arith, s.within)))) ∙ sym (find_stands key (records t) place s x);
-      records = after;
-      memory = c.remove.ensures.memory;
-      room = c.remove.ensures.room;
-      lender = c.remove.ensures.lender;
-      law = after_take key (records t) _ t.order after;
-    }
+pub returns-in_err-place-clause-answer : goal.returns-in_err-place-clause-answer
+returns-in_err-place-clause-answer g c =
+    let none = no_place c.args.key (records c.args.self.now) _ c.seek.ensures _ c.ok.ensures.value c.in_err-place.was in
+    c.from_residual.ensures ∙ sym none.0
 
-pub returns-in-Err : goal.returns-in-Err
-returns-in-Err g c =
-    let t = c.args.self.now in
-    let key = c.args.key in
-    let lacks = c.in-Err.ensures in
-    let after = sym (take_lacks key (records t) c.in-Err.field-0 lacks) in
-    record {
-      answer = sym (find_lacks key (records t) c.in-Err.field-0 lacks);
-      records = after;
-      memory = sym (laid-records t);
-      room = refl {a = room t};
-      lender = refl {a = t.places.ghost_name};
-      law = after_take key (records t) _ t.order after;
-    }
+pub returns-in_err-place-clause-records : goal.returns-in_err-place-clause-records
+returns-in_err-place-clause-records g c =
+    let none = no_place c.args.key (records c.args.self.now) _ c.seek.ensures _ c.ok.ensures.value c.in_err-place.was in
+    sym none.1
+
+pub returns-in_err-place-clause-law : goal.returns-in_err-place-clause-law
+returns-in_err-place-clause-law g c =
+    let none = no_place c.args.key (records c.args.self.now) _ c.seek.ensures _ c.ok.ensures.value c.in_err-place.was in
+    after_take c.args.key (records c.args.self.now) _ c.args.self.now.order (sym none.1)
+
+pub returns-clause-answer : goal.returns-clause-answer
+returns-clause-answer g c =
+    let stands = place_kept c.args.key (records c.args.self.now) _ c.seek.ensures _ c.ok.ensures.value c.in_ok-place.place c.in_ok-place.was in
+    c.at-taken.ensures ∙ sym (find_stands c.args.key (records c.args.self.now) c.in_ok-place.place stands)
+
+pub returns-clause-law : goal.returns-clause-law
+returns-clause-law g c = after_take c.args.key (records c.args.self.now) _ c.args.self.now.order c.remove.ensures.records
