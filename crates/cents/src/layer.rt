@@ -50,7 +50,7 @@ impl<L: CashLedger> Cents<L> {
     {
         Cents {
             below,
-            rests: Rows::new(list, Rest::default()),
+            rests: Rows::new(list, Rest { value: 0 }),
         }
     }
 
