@@ -1,4 +1,3 @@
 pub mod Listing
 pub mod Lookup
-pub mod Taken
 pub mod Tables

@@ -12,7 +12,7 @@ use Rattle.balances.specs.declared.rows.Row.{Row}
 use Rattle.balances.specs.Lookup.{kept, with_kept}
 use Rattle.balances.specs.Table.{table_balances}
 use Rattle.balances.proofs.Lookup.{kept_other, kept-with}
-use Rattle.balances.proofs.Taken.{fault_known}
+use Rattle.ledger.proofs.Taken.{fault_known}
 
 abbrev pub table : List (Row Balance) → Meaning
 table rows = meaning {S = Unit {0}} (λ _. table_balances rows) (λ _. widest 64) tt

@@ -23,7 +23,7 @@ use Rattle.balances.specs.declared.rows.Row.{Row}
 use Rattle.balances.specs.Lists.{on_list}
 use Rattle.balances.specs.Lookup.{kept, with_kept}
 use Rattle.balances.proofs.Lookup.{kept_other, kept-with, same_accounts}
-use Rattle.balances.proofs.Taken.{Taken, fault_known, taken, terms_of}
+use Rattle.ledger.proofs.Taken.{Taken, fault_known, taken, terms_of}
 use Rattle.cents.specs.declared.rest.Rest.{Rest}
 use Rattle.cents.specs.Layer.{NewLayer, layer, layer_balances, layer_terms, lowest_over, over, past, rest_of}
 use Rattle.cents.specs.Sound.{lowest_within}

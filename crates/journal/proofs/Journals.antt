@@ -1,21 +1,19 @@
 -- A journal's balances, and what a payment does to them.
-use Rattle.std.proofs.Common.{◌≡◌, ℕ, ◌+◌, ◌/◌, ◌<◌, true, List, [], ◌∷◌, ◌++◌, map, length, get_or, take, ℤ, pos, ◌+ℤ◌, is_some, Some, None, unwrap_or, sym, refl, ap, ◌∙◌, inl, inr, arith, lit≤, leb-true, w64, SFits}
+use Rattle.std.proofs.Common.{◌≡◌, ℕ, ◌+◌, ◌/◌, ◌<◌, true, List, [], ◌∷◌, ◌++◌, map, length, get_or, take, ℤ, pos, ◌+ℤ◌, is_some, Some, unwrap_or, sym, refl, ap, ◌∙◌, inl, inr, arith, w64, SFits}
 use Rattle.std.proofs.lemmas.List.{map_more}
-use Rattle.std.proofs.lemmas.Int.{to_z-of_z, ints}
+use Rattle.std.proofs.lemmas.Int.{ints}
 use Rattle.std.proofs.lemmas.Bool.{cases_Bool, cases_eq}
 use Rattle.std.proofs.lemmas.Bool.Decides.{nat_tests}
-use Rattle.faults.specs.Checks.{first_fault}
-use Rattle.faults.proofs.Rows.{all_pass}
 use Rattle.ledger.specs.declared.payment.Payment.{Payment}
 use Rattle.ledger.specs.Limits.{Within, is_zero}
 use Rattle.ledger.specs.Meaning.{Meaning}
-use Rattle.ledger.specs.Payments.{Raised, due, due_of, fault_of, term_checks}
-use Rattle.ledger.proofs.Money.{back, back_within, fits_within, reached_within, reaches_amount}
+use Rattle.ledger.specs.Payments.{Raised, due, due_of}
 use Rattle.ledger.proofs.Paid.{due_here, due_one, due_other, zero_is}
+use Rattle.ledger.proofs.Taken.{Taken}
 use Rattle.ledger.proofs.Totals.{if_inside, if_told, none_some}
 use Rattle.journal.specs.declared.journal.Journal.{Journal}
 use Rattle.journal.specs.Lines.{parts, payment_in}
-use Rattle.journal.specs.Meaning.{Appended, Notes, capacity_of, from_to, journal, lines_of, terms_of, total_of}
+use Rattle.journal.specs.Meaning.{Appended, Notes, from_to, journal, lines_of, terms_of, total_of}
 use Rattle.journal.proofs.Lines.{length-written, lines_written, past_written}
 
 -- ---- the sum of the lines
@@ -35,23 +33,12 @@ module _ (j : Journal) (a : ℕ) (b : ℤ) (e : total_of j a ≡ Some b) where
   pub small : a < parts
   small = let t = told.0 in grind (arith, nat_tests)
 
-  -- 42 and 43 decide
-  pub known_fault : (x : ℤ) → SFits w64 x → fault_of (journal j) a x ≡ first_fault (term_checks (terms_of j) a (back b) (back x))
-  unfolding fault_of
-  known_fault x fits = rw (e, back_within b told.2, to_z-of_z w64 x fits)
-
-  pub taken : (x : ℤ) → SFits w64 x → first_fault (term_checks (terms_of j) a (back b) (back x)) ≡ None → (fault_of (journal j) a x ≡ None) × Within (b +ℤ x) × (j.lines < length j.words.now / 4)
-  taken x fits h =
-      let p = all_pass (term_checks (terms_of j) a (back b) (back x)) h in
-      let room = leb-true 1 (capacity_of j) p.1.0 in (
-        known_fault x fits ∙ h,
-        reached_within _ _ b x (lit≤ tt) (lit≤ tt) (sym (reaches_amount _ _ b x (fits_within b told.2) fits) ∙ p.0),
-        omega arith,
-      )
-
 -- ---- a line more
 
-module _ (j k : Journal) (p : Payment) (b : ℤ) (e : total_of j p.account ≡ Some b) (fits : SFits w64 p.amount) (new : Within (b +ℤ p.amount)) (room : j.lines < length j.words.now / 4) (more : Appended j p k) where
+module _ (j k : Journal) (p : Payment) (b : ℤ) (e : total_of j p.account ≡ Some b) (fits : SFits w64 p.amount) (t : Taken (terms_of j) p.account b p.amount) (more : Appended j p k) where
+  room : j.lines < length j.words.now / 4
+  room = omega (arith, t.room)
+
   lines_after : lines_of k ≡ lines_of j ++ (p ∷ [])
   lines_after = rw (more.words, more.lines) (lines_written j.words.now j.lines p room (small j p.account b e) fits)
 
@@ -60,10 +47,9 @@ module _ (j k : Journal) (p : Payment) (b : ℤ) (e : total_of j p.account ≡ S
 
   total_here : total_of k p.account ≡ Some (b +ℤ p.amount)
   total_here =
-      let t = told j p.account b e in
-      let s = same_accounts p.account ∙ t.0 in
-      let d = ap (λ q. due q p.account) lines_after ∙ due_here (lines_of j) p p.account refl ∙ ap (λ z. z +ℤ p.amount) (sym t.1) in
-      rw (s, d) (if_inside (b +ℤ p.amount) new)
+      let s = same_accounts p.account ∙ (told j p.account b e).0 in
+      let d = ap (λ q. due q p.account) lines_after ∙ due_here (lines_of j) p p.account refl ∙ ap (λ z. z +ℤ p.amount) (sym (told j p.account b e).1) in
+      rw (s, d) (if_inside (b +ℤ p.amount) t.within)
 
   total_there : (a : ℕ) → (a ≡ p.account → ⊥) → total_of k a ≡ total_of j a
   total_there a ne = rw (same_accounts a, ap (λ q. due q a) lines_after ∙ due_other (lines_of j) p a (λ q. ne (sym q)))

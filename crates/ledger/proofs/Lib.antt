@@ -2,3 +2,4 @@ pub mod Money
 pub mod Refused
 pub mod Paid
 pub mod Totals
+pub mod Taken

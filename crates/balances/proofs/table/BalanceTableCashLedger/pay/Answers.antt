@@ -7,7 +7,7 @@ use Rattle.ledger.proofs.Refused.{same_self}
 use Rattle.balances.specs.Lookup.{kept}
 use Rattle.balances.proofs.Lookup.{kept_back}
 use Rattle.balances.proofs.Tables.{table_fault, table_raised, table_unknown}
-use Rattle.balances.proofs.Taken.{taken}
+use Rattle.ledger.proofs.Taken.{taken}
 use Rattle.balances.proofs.table.BalanceTableCashLedger.pay.Goals as goal
 
 pub returns-in_err-balance : goal.returns-in_err-balance

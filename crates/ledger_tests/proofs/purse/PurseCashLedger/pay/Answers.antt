@@ -5,7 +5,7 @@ use Rattle.faults.specs.Refusals.{named}
 use Rattle.faults.proofs.Rows.{verdict_failed}
 use Rattle.ledger.proofs.Money.{fits_within, reaches_amount}
 use Rattle.ledger.proofs.Refused.{same_self, unknown_refused}
-use Rattle.balances.proofs.Taken.{fault_known, taken}
+use Rattle.ledger.proofs.Taken.{fault_known, taken}
 use Rattle.ledger_tests.specs.Purse.{balances_of, terms_of}
 use Rattle.ledger_tests.proofs.Purses.{purse, purse_raised, told_within}
 use Rattle.ledger_tests.proofs.purse.PurseCashLedger.pay.Goals as goal
