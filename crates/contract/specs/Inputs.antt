@@ -8,18 +8,18 @@ use Rattle.contract.specs.declared.inputs.Checked.{Checked}
 use Rattle.contract.specs.declared.inputs.Checked.TheVariants as checked
 use Rattle.contract.specs.Step.{input_checks}
 
--- the call in plain numbers
-abbrev pub plain : Checked → Call
-plain (checked.List Ne k0) = call.List Ne.value k0.value
-plain (checked.Open DF) = call.Open DF.value
-plain (checked.Trade buyer seller vega tick) = call.Trade buyer.value seller.value vega.value tick.value
-plain (checked.Bust ticket) = call.Bust ticket
-plain (checked.Close None bid offer) = call.Close None bid.value offer.value
-plain (checked.Close (Some v) bid offer) = call.Close (Some v.value) bid.value offer.value
-plain (checked.Accrue rate) = call.Accrue rate.value
-plain (checked.Settle v) = call.Settle (Some v.value)
+-- the call as a caller makes it, in numbers
+abbrev pub in_numbers : Checked → Call
+in_numbers (checked.List Ne k0) = call.List Ne.value k0.value
+in_numbers (checked.Open DF) = call.Open DF.value
+in_numbers (checked.Trade buyer seller vega tick) = call.Trade buyer.value seller.value vega.value tick.value
+in_numbers (checked.Bust ticket) = call.Bust ticket
+in_numbers (checked.Close None quotes) = call.Close None quotes.bid.value quotes.offer.value
+in_numbers (checked.Close (Some v) quotes) = call.Close (Some v.value) quotes.bid.value quotes.offer.value
+in_numbers (checked.Accrue rate) = call.Accrue rate.value
+in_numbers (checked.Settle v) = call.Settle (Some v.value)
 
 -- the same call, or the first limit that its figures break
 abbrev pub Checks : Call → Result Checked Fault → Type 0
-Checks c (Ok x) = (first_fault (input_checks c) ≡ None) × (plain x ≡ c)
+Checks c (Ok x) = (first_fault (input_checks c) ≡ None) × (in_numbers x ≡ c)
 Checks c (Err fault) = first_fault (input_checks c) ≡ Some fault

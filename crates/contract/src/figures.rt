@@ -1,4 +1,5 @@
-// The plain figures that a contract keeps between calls.
+// The figures that a contract keeps between calls. They are numbers, so that the promises on them read as the rules do;
+// that they stay within their limits is a fact of `Contract`.
 #[derive(Clone, Copy, PartialEq, Eq, Debug)]
 pub enum Phase {
     Unlisted,

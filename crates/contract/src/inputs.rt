@@ -6,11 +6,13 @@ ghost use Rattle.contract.specs.Inputs.{Checks};
 ghost use Rattle.contract.specs.Step.{value_checks};
 
 use crate::calls::Call;
+use crate::quotes::Quotes;
 use faults::{Fault, Refusal, require};
 use quantities::{
     AccountNumber, DiscountFactor, ExpectedValues, IndexValue, Rate, Strike, Tick, Vega,
 };
 
+// The same calls with their figures in their types; `in_numbers` ties them to those that a caller makes.
 #[derive(Clone, Copy, PartialEq, Eq, Debug)]
 pub(crate) enum Checked {
     List {
@@ -31,8 +33,7 @@ pub(crate) enum Checked {
     },
     Close {
         value: Option<IndexValue>,
-        bid: Tick,
-        offer: Tick,
+        quotes: Quotes,
     },
     Accrue {
         rate: Rate,
@@ -93,8 +94,7 @@ fn check_close(value: Option<u32>, bid: u32, offer: u32) -> Result<Checked, Faul
     require(bid <= offer, Refusal::BidAboveOffer)?;
     Ok(Checked::Close {
         value: check_value(value)?,
-        bid,
-        offer,
+        quotes: Quotes { bid, offer },
     })
 }
 

@@ -7,6 +7,7 @@ pub mod contract;
 pub mod figures;
 mod index;
 mod inputs;
+mod quotes;
 mod settlement;
 mod steps;
 

@@ -3,7 +3,7 @@ ghost use Rattle.std.specs.Prelude.{◌≡◌};
 ghost use Rattle.contract.specs.declared.figures.Phase.TheVariants.{Ready, Trading, Closed};
 ghost use Rattle.contract.specs.declared.inputs.Checked.TheVariants as checked;
 ghost use Rattle.faults.specs.Checks.{first_fault};
-ghost use Rattle.contract.specs.Inputs.{plain};
+ghost use Rattle.contract.specs.Inputs.{in_numbers};
 ghost use Rattle.contract.specs.Step.{unlisted, listed as listed_at, accrued, checks, Ends, Serves, Step as StepOf};
 
 use crate::call_fault::ContractFault;
@@ -11,10 +11,11 @@ use crate::calls::{Answer, Call};
 use crate::contract::Contract;
 use crate::figures::{Figures, IndexRecord, Phase};
 use crate::inputs::Checked;
+use crate::quotes::Quotes;
 use crate::settlement::settlement_price;
 use faults::{Fault, Refusal, require};
 use prices::price::{AccumulatedReturn, BASE_PRICE, Price};
-use quantities::{DiscountFactor, ExpectedValues, IndexValue, Rate, Strike, Tick};
+use quantities::{DiscountFactor, ExpectedValues, IndexValue, Rate, Strike};
 
 const NO_VALUES: IndexRecord = IndexRecord {
     last: None,
@@ -70,12 +71,12 @@ impl Contract {
     }
 
     // Trading to Closed: the day's value is kept, unless the day is disrupted, and the mark makes the settlement price.
-    fn close(&mut self, value: Option<IndexValue>, bid: Tick, offer: Tick) -> Result<Answer, Fault>
+    fn close(&mut self, value: Option<IndexValue>, quotes: Quotes) -> Result<Answer, Fault>
         requires { self.old.figures.phase ≡ Trading }
-        ensures { Serves self.old.figures (plain (checked.Close value bid offer)) result self.new.figures }
+        ensures { Serves self.old.figures (in_numbers (checked.Close value quotes)) result self.new.figures }
     {
         let index = self.figures.index.keep(value)?;
-        let price = settlement_price(self.figures, index, bid, offer);
+        let price = settlement_price(self.figures, index, quotes);
         self.figures = Figures {
             phase: Phase::Closed,
             closes: self.figures.closes + 1,
@@ -108,7 +109,7 @@ impl Contract {
 
     // The phase and the call together tell what is done; every other pair is refused.
     fn serve(&mut self, call: Checked) -> Result<Answer, Fault>
-        ensures { Serves self.old.figures (plain call) result self.new.figures }
+        ensures { Serves self.old.figures (in_numbers call) result self.new.figures }
     {
         match (self.figures.phase, call) {
             (Phase::Unlisted, Checked::List { expected, strike }) => {
@@ -116,7 +117,7 @@ impl Contract {
                 Ok(Answer::Done)
             }
             (Phase::Ready, Checked::Open { discount }) => self.open(discount),
-            (Phase::Trading, Checked::Close { value, bid, offer }) => self.close(value, bid, offer),
+            (Phase::Trading, Checked::Close { value, quotes }) => self.close(value, quotes),
             (Phase::Closed, Checked::Accrue { rate }) => {
                 self.accrue(rate);
                 Ok(Answer::Done)

@@ -24,7 +24,7 @@ pub(crate) struct Read {
     pub(crate) words: usize,
 }
 
-// The word at a place, its highest byte first.
+// The word at a place, its highest byte first. Of a chunk of four bytes (`as_chunks`) the check does not find where they stand in the file.
 pub(crate) fn word_at(bytes: &[u8], place: usize) -> u32
     requires { 4 * place + 4 ≤ length bytes.now }
     ensures { result ≡ word bytes.now place }
@@ -66,7 +66,7 @@ pub(crate) fn one_word(place: usize, kind: Kind, body: u32) -> Result<Read, File
     Ok(Read { item, words: 1 })
 }
 
-// The call of two words. A second word of another kind leaves the first unfinished.
+// The call of two words. The kind of a second word is one above that of its first; any other leaves the first unfinished.
 pub(crate) fn two_words(place: usize, kind: Kind, body: u32, second: u32) -> Result<Read, FileFault>
     requires kind { starts (number_of kind) ≡ true }
     requires place { place + 1 < 2 ^ 64 }

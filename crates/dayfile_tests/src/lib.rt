@@ -14,14 +14,22 @@ mod tests {
         Ok(day.sheet(rt.alloc(), end)?)
     }
 
+    fn expect_file(
+        rt: &(impl Abort + AllocGlobal),
+        bytes: &[u8],
+        expected: &str,
+    ) -> Result<(), Fail> {
+        let text = sheet(rt, bytes)?;
+        assert_eq!(rt; text.as_str(), expected);
+        Ok(())
+    }
+
     fn expect(rt: &(impl Abort + AllocGlobal), words: &[u32], expected: &str) -> Result<(), Fail> {
         let mut bytes = Vec::new(rt.alloc());
         for word in words {
             bytes.extend_from_slice(&word.to_be_bytes())?;
         }
-        let text = sheet(rt, &bytes)?;
-        assert_eq!(rt; text.as_str(), expected);
-        Ok(())
+        expect_file(rt, &bytes, expected)
     }
 
     // A file of zeros, which are words of kind 0.
@@ -31,9 +39,7 @@ mod tests {
         expected: &str,
     ) -> Result<(), Fail> {
         let bytes = vec![in rt.alloc(); 0u8; length]?;
-        let text = sheet(rt, &bytes)?;
-        assert_eq!(rt; text.as_str(), expected);
-        Ok(())
+        expect_file(rt, &bytes, expected)
     }
 
     // The length is told before all: a file of a right length goes on to its first word.
@@ -143,9 +149,7 @@ mod tests {
             bytes.extend_from_slice(&(0xB000_0001u32.wrapping_add(number)).to_be_bytes())?;
         }
         bytes.extend_from_slice(&(0xB000_0000u32.wrapping_add(account)).to_be_bytes())?;
-        let text = sheet(rt, &bytes)?;
-        assert_eq!(rt; text.as_str(), expected);
-        Ok(())
+        expect_file(rt, &bytes, expected)
     }
 
     // 64 different accounts have a place; a repeated one counts once.

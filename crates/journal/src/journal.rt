@@ -4,7 +4,7 @@ mod reading;
 mod writing;
 
 // Payments one after another, to accounts from a first to a last number.
-// The words are the caller's, so how many lines are written in them is counted beside them.
+// The words are the caller's, since a ledger allocates nothing, so how many lines are written in them is counted beside them.
 #[derive(Drop)]
 pub struct Journal<'a> {
     words: &'a mut [u32],

@@ -1,4 +1,4 @@
-// A line: the four words of a payment.
+// A line: the four words of a payment. Its words are laid out like a day file's, by a format of their own, which may part from that one.
 ghost use Rattle.std.specs.Prelude.{◌≡◌, ◌<◌};
 ghost use Rattle.journal.specs.Lines.{part as part_of, parts, payment_in, word as word_of, words_of as line_of};
 

@@ -61,6 +61,7 @@ pub trait CashLedger: BalanceReader {
         self.terms().highest
     }
 
+    // An account and an amount, and no `Payment`: most ledgers would take it apart at once.
     fn pay(&mut self, account: u32, amount: i64) -> Result<(), Fault>
         ensures { Pays (meaning Self.BalanceReader.balances terms self.old) account amount result (meaning Self.BalanceReader.balances terms self.new) };
 }

@@ -18,7 +18,8 @@ const RETURN_UNITS: u32 = 10_000;
 // One a year, as a rate in hundredths of a percent, over 360 days.
 const RATE_YEAR: u32 = 3_600_000;
 
-// A price, in ten-thousandths of a point.
+// A price, in ten-thousandths of a point. It shares with the other figures that it is bounded, and no function, so one type over
+// all their bounds would save nothing.
 #[derive(Clone, Copy, PartialEq, Eq)]
 pub struct Price {
     pub value: i64,

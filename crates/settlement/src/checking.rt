@@ -1,5 +1,5 @@
-// The checks of all payments, before one is made. The ledger's own checks go over a row of payments; here each payment is formed where it is asked
-// for, since a row of them would need memory.
+// The checks of all payments, before one is made. They are beside the ledger's own, which count the payments before each one and no costs:
+// here each account is paid once, formed where it is asked for, and its units and cost are checked too.
 ghost use Rattle.std.specs.Prelude.{◌≡◌, Bool, map, ℤ, Some, None};
 ghost use Rattle.faults.specs.Checks.{Check, check, first_fault, verdict};
 ghost use Rattle.ledger.specs.Meaning.{Meaning, meaning};

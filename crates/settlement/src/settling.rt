@@ -16,7 +16,7 @@ use positions::Account;
 use prices::price::Price;
 use table::{Keyed, Table};
 
-// Makes payments that have passed every check, in table order, each formed as it is made: a row of them would need memory.
+// Makes payments that have passed every check, in table order. The ledger's own loop asks the same of its callers, which no public function may.
 fn pay_all<L: CashLedger>(
     records: &[Keyed<Account>],
     ledger: &mut L,
