@@ -5,18 +5,18 @@ ghost use Rattle.positions.specs.Positions.{changed};
 ghost use Rattle.positions.specs.Trading.{has_account_place};
 
 use crate::limits::ACCOUNT_PLACES;
-use crate::records::Account;
+use crate::records::{Account, Trade};
 use table::Table;
 
 // Once the buyer has its place, which may have been the last.
 #[tactic(auto, unfolding(crate::specs::Trading::has_account_place), using(crate::proofs::Placed::place_after))]
-pub(crate) fn seller_has_place(accounts: &Table<'_, Account>, buyer: u32, seller: u32) -> bool
-    ensures { (units cost : ℤ) → result ≡ has_account_place (room accounts.now) seller (changed buyer units cost (records accounts.now)) }
+pub(crate) fn seller_has_place(accounts: &Table<'_, Account>, trade: Trade) -> bool
+    ensures { (units cost : ℤ) → result ≡ has_account_place (room accounts.now) trade.seller (changed trade.buyer units cost (records accounts.now)) }
 {
-    let taken = usize::from(accounts.find(buyer).is_none());
+    let taken = usize::from(accounts.find(trade.buyer).is_none());
     let left = accounts
         .capacity()
         .min(ACCOUNT_PLACES)
         .saturating_sub(taken);
-    (buyer == seller) | accounts.has_place(seller, left)
+    (trade.buyer == trade.seller) | accounts.has_place(trade.seller, left)
 }

@@ -6,7 +6,7 @@ ghost use Rattle.positions.specs.Trading.{cost_holds, units_hold};
 
 use crate::change::Change;
 use crate::limits::{MOST_COST, MOST_UNITS};
-use crate::records::Account;
+use crate::records::{Account, Trade};
 use table::Table;
 
 // An account's record, and the change that is to be made to it.
@@ -32,21 +32,16 @@ impl Side {
     // The seller's side, read after the buyer's change. An account that sells to itself comes back to where it was, so its second change meets the
     // limits that its first meets.
     #[tactic(auto, using(crate::proofs::Positions::changed_same, crate::proofs::Positions::changed_other, crate::proofs::Positions::units_back, crate::proofs::Positions::cost_back))]
-    pub(crate) fn of_seller(
-        accounts: &Table<'_, Account>,
-        buyer: u32,
-        seller: u32,
-        change: Change,
-    ) -> Side
-        ensures units { units_hold result.change.units result.account ≡ units_hold (neg_ℤ change.units) (account_of seller (changed buyer change.units change.cost (records accounts.now))) }
-        ensures cost { cost_holds result.change.cost result.account ≡ cost_holds (neg_ℤ change.cost) (account_of seller (changed buyer change.units change.cost (records accounts.now))) }
+    pub(crate) fn of_seller(accounts: &Table<'_, Account>, trade: Trade, change: Change) -> Side
+        ensures units { units_hold result.change.units result.account ≡ units_hold (neg_ℤ change.units) (account_of trade.seller (changed trade.buyer change.units change.cost (records accounts.now))) }
+        ensures cost { cost_holds result.change.cost result.account ≡ cost_holds (neg_ℤ change.cost) (account_of trade.seller (changed trade.buyer change.units change.cost (records accounts.now))) }
     {
-        let made = if seller == buyer {
+        let made = if trade.seller == trade.buyer {
             change
         } else {
             change.opposite()
         };
-        Side::of(accounts, seller, made)
+        Side::of(accounts, trade.seller, made)
     }
 
     // Whether the units are within the limit before and after, and those at the last close.

@@ -28,7 +28,7 @@ fn check_entry(
 {
     let change = Change::bought(trade);
     let buyer = Side::of(accounts, trade.buyer, change);
-    let seller = Side::of_seller(accounts, trade.buyer, trade.seller, change);
+    let seller = Side::of_seller(accounts, trade, change);
     require(buyer.units_hold(), Refusal::AccountUnits.at(trade.buyer))?;
     require(seller.units_hold(), Refusal::AccountUnits.at(trade.seller))?;
     require(
@@ -36,7 +36,7 @@ fn check_entry(
         Refusal::NoAccountPlace.at(trade.buyer),
     )?;
     require(
-        seller_has_place(accounts, trade.buyer, trade.seller),
+        seller_has_place(accounts, trade),
         Refusal::NoAccountPlace.at(trade.seller),
     )?;
     require(
@@ -54,7 +54,7 @@ fn check_bust(accounts: &Table<'_, Account>, trade: Trade) -> Result<(), Fault>
 {
     let change = Change::bought(trade).opposite();
     let buyer = Side::of(accounts, trade.buyer, change);
-    let seller = Side::of_seller(accounts, trade.buyer, trade.seller, change);
+    let seller = Side::of_seller(accounts, trade, change);
     let buyer_there = accounts.find(trade.buyer).is_some();
     let seller_there = accounts.find(trade.seller).is_some();
     require(
@@ -84,18 +84,18 @@ fn make_change(accounts: &mut Table<'_, Account>, number: u32, change: Change)
 }
 
 // Makes a change to the buyer, then its opposite to the seller.
-fn make_changes(accounts: &mut Table<'_, Account>, buyer: u32, seller: u32, change: Change)
-    requires { BothAllowed (room accounts.old) buyer seller change.units change.cost (records accounts.old) }
-    ensures records { records accounts.new ≡ changed seller (neg_ℤ change.units) (neg_ℤ change.cost) (changed buyer change.units change.cost (records accounts.old)) }
+fn make_changes(accounts: &mut Table<'_, Account>, trade: Trade, change: Change)
+    requires { BothAllowed (room accounts.old) trade.buyer trade.seller change.units change.cost (records accounts.old) }
+    ensures records { records accounts.new ≡ changed trade.seller (neg_ℤ change.units) (neg_ℤ change.cost) (changed trade.buyer change.units change.cost (records accounts.old)) }
     ensures totals { SameTotals (records accounts.old) (records accounts.new) }
     ensures places { SamePlaces accounts.old accounts.new }
 {
-    make_change(accounts, buyer, change);
-    make_change(accounts, seller, change.opposite());
+    make_change(accounts, trade.buyer, change);
+    make_change(accounts, trade.seller, change.opposite());
 }
 
 // Enters a trade under its ticket. A refused trade changes neither table.
-// A book lends its tables side by side, with its contract and its ledger, and none of them keeps another.
+// Two tables and no struct of them, in a public signature: they are lent side by side, with a contract and a ledger, and none keeps another.
 #[tactic(auto, using(crate::proofs::Passed::entry_place))]
 pub fn enter(
     accounts: &mut Table<'_, Account>,
@@ -109,7 +109,7 @@ pub fn enter(
     ensures trades_places { SamePlaces trades.old trades.new }
 {
     check_entry(accounts, trades, ticket, trade)?;
-    make_changes(accounts, trade.buyer, trade.seller, Change::bought(trade));
+    make_changes(accounts, trade, Change::bought(trade));
     let _ = trades.put(Keyed {
         key: ticket,
         value: trade,
@@ -130,12 +130,7 @@ pub fn bust(
 {
     let trade = trades.find(ticket).ok_or(Refusal::NoSuchTrade)?.value;
     check_bust(accounts, trade)?;
-    make_changes(
-        accounts,
-        trade.buyer,
-        trade.seller,
-        Change::bought(trade).opposite(),
-    );
+    make_changes(accounts, trade, Change::bought(trade).opposite());
     let _ = trades.take(ticket);
     Ok(())
 }
