@@ -1,5 +1,5 @@
 // How the sheet writes money, accumulated returns, lines and refusals.
-ghost use Rattle.std.specs.Prelude.{◌≡◌, ◌<◌, Some};
+ghost use Rattle.std.specs.Prelude.{◌≡◌, ◌^◌, ◌<◌, Some};
 ghost use Rattle.dayfile.specs.Texts.{sign, decimal_text, line_text, call_word, fault_text};
 
 use crate::file_fault::{Cause, FileFault};
@@ -18,6 +18,7 @@ fn sign_of(value: i64) -> &'static str
 pub struct Decimal<const UNIT: u64, const DECIMALS: usize> {
     pub value: i64,
     ghost whole: { 0 < UNIT },
+    ghost written: { UNIT ≡ 10 ^ DECIMALS },
 }
 
 // Ten-thousandths of a dollar or a point.
