@@ -1,11 +1,9 @@
 -- Signed amounts and balances in 64 bits.
-use Rattle.std.proofs.Common.{◌≡◌, ◌≤◌, true, ◌&&◌, ℤ, ◌+ℤ◌, nat_abs, ◌≤ℤ◌, arith, w64, SFits, to_z, of_z}
-use lib.Signed.{le_z}
+use Rattle.std.proofs.Common.{◌≡◌, ◌≤◌, true, ℤ, ◌+ℤ◌, nat_abs, ◌≤ℤ◌, arith, w64, SFits, to_z, of_z}
 use mir.Syntax.{w128}
 use Rattle.std.proofs.lemmas.Int.{to_z-of_z, ints}
-use Rattle.std.proofs.lemmas.Bool.{and_parts}
 use Rattle.std.proofs.lemmas.Bool.Decides.{nat_tests}
-use Rattle.ledger.specs.Limits.{Within, inside, largest_payment, reaches}
+use Rattle.ledger.specs.Limits.{Within, reaches}
 
 -- an amount that is passed or computed shows as its bits and back
 abbrev pub back : ℤ → ℤ

@@ -1,19 +1,18 @@
 -- One payment after another.
-use Rattle.std.proofs.Common.{◌≡◌, ℕ, ◌+◌, ◌<◌, ◌≤◌, Bool, true, false, cond, ◌||◌, not, eqb, List, [], ◌∷◌, ◌++◌, map, length, get_or, take, drop, ℤ, pos, ◌+ℤ◌, nat_abs, None, Some, inl, inr, sym, refl, ap, ◌∙◌, append_assoc, arith, w64, SFits, leb-true}
+use Rattle.std.proofs.Common.{◌≡◌, ℕ, ◌+◌, ◌<◌, ◌≤◌, true, false, cond, not, eqb, List, [], ◌∷◌, ◌++◌, map, length, get_or, take, drop, ℤ, pos, ◌+ℤ◌, nat_abs, None, Some, inl, sym, refl, ap, ◌∙◌, append_assoc, arith, w64, SFits, leb-true}
 use lib.IntN.{+ℤ_idr}
 use Rattle.std.proofs.lemmas.List.{append-nil, map-append, take_more}
 use Rattle.std.proofs.lemmas.List.Sums.{count_by_more_no, count_by_more_yes, sum_by-take-le}
 use Rattle.std.proofs.lemmas.Int.{to_z-of_z, ints}
-use Rattle.std.proofs.lemmas.Bool.{cases_Bool}
 use Rattle.std.proofs.lemmas.Bool.Decides.{nat_tests}
 use Rattle.ledger.specs.declared.payment.Payment.{Payment}
 use Rattle.faults.specs.Checks.{first_fault}
-use Rattle.ledger.specs.Limits.{Within, is_zero, reaches}
+use Rattle.ledger.specs.Limits.{Within, is_zero}
 use Rattle.ledger.specs.Meaning.{Meaning}
 use Rattle.ledger.specs.Payments.{Raised, Paid, due, made, known_check, range_check, range_checks, capacity_check, fault_of, fault_of_all}
 use Rattle.faults.proofs.Rows.{cut, or_else, first-append, none_both, passed, passes_then, fails_then}
-use Rattle.ledger.proofs.Money.{back, fits_within, reached_within}
-use Rattle.ledger.proofs.Refused.{not_refused, raised_at}
+use Rattle.ledger.proofs.Money.{back, reached_within}
+use Rattle.ledger.proofs.Refused.{not_refused}
 
 -- what stands past the end of a row of payments
 abbrev pub no_payment : Payment
@@ -69,13 +68,9 @@ module _ (m : Meaning) (ps : List Payment) (i : ℕ) (d : Payment) (h : i < leng
   next_sum z f g a e is =
       let p = get_or ps i d in
       let t = range_at m ps i d h ok in
-      let s : SFits w64 (z +ℤ p.amount) = elim (cases_Bool (is_zero p.amount)) [
-        | inl k ↦ (let x = zero_is p.amount k in let y : z +ℤ p.amount ≡ z = omega (arith, ints) in rw y f)
-        | inr k ↦ (let r : reaches m.lowest m.highest (m.balance p.account +ℤ due (take i ps) p.account) p.amount ≡ true = rw k at t in
-            fits_within _ (rw e (rw is at (reached_within _ _ _ _ low high r))))
-      ] in
+      let s : SFits w64 (z +ℤ p.amount) = grind (arith, nat_tests, ints, zero_is, reached_within) in
       let u = due_here (take i ps) p a is in
-      rw (to_z-of_z w64 p.amount g, to_z-of_z w64 _ s, take_more ps i d h) (s, omega (arith, ints))
+      simp to_z-of_z (s, rw (take_more ps i d h) (omega (arith, ints)))
 
 -- ---- the ledger
 
@@ -86,12 +81,9 @@ paid_none m = record { known = λ _. refl; balance = λ a. sym (+ℤ_idr (m.bala
 module _ (m : Meaning) (ps : List Payment) (ok : fault_of_all m ps ≡ None) (i : ℕ) (d : Payment) (h : i < length ps) (n : Meaning) (paid : Paid m (take i ps) n) where
   raised_paid : (o : Meaning) → Raised n (get_or ps i d).account (get_or ps i d).amount o → n.capacity + made (take i ps) ≤ o.capacity + made (take (i + 1) ps) → Paid m (take (i + 1) ps) o
   raised_paid o r few =
-      let less = paid.few_less in
-      let no = paid.no_more in
-      let room = r.capacity in
       record {
         known = λ b. r.known b ∙ paid.known b;
-        balance = λ b. (let e = raised_at n (get_or ps i d).account (get_or ps i d).amount o r b in let g = paid.balance b in let s = due_one (take i ps) (get_or ps i d) b in rw (take_more ps i d h) (omega (arith, ints)));
+        balance = λ b. (let here = r.here in let others = r.others b in let g = paid.balance b in let s = due_one (take i ps) (get_or ps i d) b in rw (take_more ps i d h) (grind (arith, nat_tests, ints)));
         no_more = omega arith;
         few_less = omega arith;
         lowest = r.lowest ∙ paid.lowest;
@@ -116,10 +108,12 @@ module _ (m : Meaning) (ps : List Payment) (ok : fault_of_all m ps ≡ None) (i 
         let p = get_or ps i d in
         let first = none_both (first_fault (map (known_check m) ps)) (or_else (first_fault (range_checks m [] ps)) (first_fault (capacity_check m ps ∷ []))) (sym (kinds m ps) ∙ ok) in
         let second = none_both (first_fault (range_checks m [] ps)) (first_fault (capacity_check m ps ∷ [])) first.1 in
-        let k : m.known p.account ≡ true = rw z at (passed (map (known_check m) (take i ps)) (known_check m p) (map (known_check m) (drop (i + 1) ps)) (rw (cut ps i d h, map-append) at first.0)) in
-        let r : reaches m.lowest m.highest (m.balance p.account +ℤ due (take i ps) p.account) p.amount ≡ true = rw z at (range_at m ps i d h second.0) in
-        let room = leb-true (made ps) m.capacity (passed [] (capacity_check m ps) [] second.1) in
+        let k = passed (map (known_check m) (take i ps)) (known_check m p) (map (known_check m) (drop (i + 1) ps)) (rw (cut ps i d h, map-append) at first.0) in
+        let r = range_at m ps i d h second.0 in
+        let room = passed [] (capacity_check m ps) [] second.1 in
         let count = counted in
         let part = sum_by-take-le (λ (q : Payment). cond (not (is_zero q.amount)) 1 0) ps (i + 1) in
         let less = paid.few_less in
-        not_refused n p.account p.amount (paid.known p.account ∙ k) (rw (paid.lowest, paid.highest, paid.balance p.account) r) (omega arith)
+        let known = paid.known p.account in
+        let balance = paid.balance p.account in
+        grind (arith, nat_tests, not_refused)
