@@ -1,4 +1,4 @@
-use Rattle.std.proofs.Common.{sym, ◌∙◌}
+use Rattle.std.proofs.Common.{arith, sym, ◌∙◌}
 use Rattle.std.proofs.lemmas.Result.{err_from_is_err_and}
 use Rattle.faults.proofs.Rows.{verdict_passed, verdict_failed}
 use Rattle.ledger.proofs.Refused.{same_self}
@@ -8,24 +8,17 @@ use Rattle.ledger.proofs.paying.pay_all.Goals as goal
 pub returns-in_err-check_known : goal.returns-in_err-check_known
 returns-in_err-check_known g c =
     let p = err_from_is_err_and c.from_residual.result c.from_residual.ensures.1 in
-    rw (p.1, p.2) (kinds _ _ ∙ rw (verdict_failed tt _ _ (sym c.in_err-check_known.ensures)), same_self _)
+    rw (p.1, p.2) (grind (arith, kinds), same_self _)
 
 pub returns-in_err-check_range : goal.returns-in_err-check_range
 returns-in_err-check_range g c =
     let p = err_from_is_err_and c.from_residual-in_err-check_range.result c.from_residual-in_err-check_range.ensures.1 in
-    let k = verdict_passed tt tt _ (sym c.in_ok-check_known.ensures) in
-    rw (p.1, p.2) (kinds _ _ ∙ rw (k, verdict_failed tt _ _ (sym c.in_err-check_range.ensures)), same_self _)
+    rw (p.1, p.2) (grind (arith, kinds, verdict_passed, verdict_failed), same_self _)
 
 pub returns-in_err-require : goal.returns-in_err-require
 returns-in_err-require g c =
     let p = err_from_is_err_and c.from_residual-in_err-require.result c.from_residual-in_err-require.ensures.1 in
-    let k = verdict_passed tt tt _ (sym c.in_ok-check_known.ensures) in
-    let r = verdict_passed tt tt _ (sym c.in_ok-check_range.ensures) in
-    let e = c.in_err-require.ensures in
-    rw (p.1, p.2, e.1) (kinds _ _ ∙ rw (k, r, rw (c.count_made.ensures, c.capacity.ensures) at e.0), same_self _)
+    rw (p.1, p.2) (grind (arith, kinds, verdict_passed, verdict_failed), same_self _)
 
 pub make_all-requires : goal.make_all-requires
-make_all-requires g c =
-    let k = verdict_passed tt tt _ (sym c.in_ok-check_known.ensures) in
-    let r = verdict_passed tt tt _ (sym c.in_ok-check_range.ensures) in
-    all_pass _ _ k r (rw (c.count_made.ensures, c.capacity.ensures) at c.in_ok-require.ensures)
+make_all-requires g c = grind (arith, kinds, verdict_passed, verdict_failed)
