@@ -1,5 +1,10 @@
 -- One payment after another.
 use Rattle.std.proofs.Common.{◌≡◌, ℕ, ◌+◌, ◌<◌, ◌≤◌, true, false, cond, not, eqb, List, [], ◌∷◌, ◌++◌, map, length, get_or, take, drop, ℤ, pos, ◌+ℤ◌, nat_abs, None, Some, inl, sym, refl, ap, ◌∙◌, append_assoc, arith, w64, SFits, leb-true}
+use Rattle.std.proofs.Common.{Result, Err}
+use Rattle.faults.specs.declared.Fault.{Fault}
+use Rattle.ledger.specs.Payments.{PaysAll}
+use Rattle.ledger.proofs.Refused.{same_self}
+use Rattle.std.proofs.lemmas.Result.{err_from_is_err_and}
 use lib.IntN.{+ℤ_idr}
 use Rattle.std.proofs.lemmas.List.{append-nil, map-append, take_more}
 use Rattle.std.proofs.lemmas.List.Sums.{count_by_more_no, count_by_more_yes, sum_by-take-le}
@@ -43,6 +48,11 @@ range-append m before (p ∷ ps) qs = simp (range-append m (before ++ (p ∷ [])
 pub kinds : (m : Meaning) (ps : List Payment) → fault_of_all m ps ≡ or_else (first_fault (map (known_check m) ps)) (or_else (first_fault (range_checks m [] ps)) (first_fault (capacity_check m ps ∷ [])))
 unfolding fault_of_all
 kinds m ps = simp first-append
+
+pub pays_failed : {U : Type 0} (m : Meaning) (ps : List Payment) (r : Result U Fault) (f : Fault) → r ≡ Err f → fault_of_all m ps ≡ Some f → PaysAll m ps r m
+pays_failed m ps r f e s = rw e (s, same_self m)
+
+pub ruleset exits = (kinds, err_from_is_err_and, pays_failed)
 
 pub all_pass : (m : Meaning) (ps : List Payment) → first_fault (map (known_check m) ps) ≡ None → first_fault (range_checks m [] ps) ≡ None → (capacity_check m ps).passes ≡ true → fault_of_all m ps ≡ None
 all_pass m ps k r t = kinds m ps ∙ rw (k, r, t)

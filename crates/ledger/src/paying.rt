@@ -72,6 +72,7 @@ fn make_all<L: CashLedger>(ledger: &mut L, payments: &[Payment]) -> Result<(), F
 
 // Makes payments in their order. All are checked first: all accounts, then all balances, each with the payments before
 // it counted, then the capacity. A payment of zero is not made, and never refused.
+#[tactic(auto, using(crate::proofs::Paid::exits))]
 pub fn pay_all<L: CashLedger>(ledger: &mut L, payments: &[Payment]) -> Result<(), Fault>
     ensures { PaysAll (meaning L.BalanceReader.balances L.CashLedger.terms ledger.old) payments.now result (meaning L.BalanceReader.balances L.CashLedger.terms ledger.new) }
 {
