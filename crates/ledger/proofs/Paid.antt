@@ -16,7 +16,7 @@ use Rattle.ledger.specs.Limits.{Within, is_zero}
 use Rattle.ledger.specs.Meaning.{Meaning}
 use Rattle.ledger.specs.Payments.{Raised, Paid, due, made, known_check, range_check, range_checks, capacity_check, fault_of, fault_of_all}
 use Rattle.faults.proofs.Rows.{cut, or_else, first-append, none_both, passed, passes_then, fails_then}
-use Rattle.ledger.proofs.Money.{back, reached_within}
+use Rattle.ledger.proofs.Money.{reaches_amount, back, reached_within}
 use Rattle.ledger.proofs.Refused.{not_refused}
 
 -- what stands past the end of a row of payments
@@ -65,12 +65,15 @@ module _ (m : Meaning) (ps : List Payment) (i : ℕ) (d : Payment) (h : i < leng
   pub range_at : first_fault (range_checks m [] ps) ≡ None → (range_check m (take i ps) (get_or ps i d)).passes ≡ true
   range_at e = passed (range_checks m [] (take i ps)) (range_check m (take i ps) (get_or ps i d)) _ (rw parted at e)
 
-  module _ (before : first_fault (range_checks m [] (take i ps)) ≡ None) where
-    pub range_more : (range_check m (take i ps) (get_or ps i d)).passes ≡ true → first_fault (range_checks m [] (take (i + 1) ps)) ≡ None
-    range_more p = rw (take_more ps i d h, range-append) (passes_then (range_checks m [] (take i ps)) (range_check m (take i ps) (get_or ps i d)) [] before p)
+-- one turn of the loop that checks each range
+module _ (m : Meaning) (ps : List Payment) (i : ℕ) (h : i < length ps) (before : first_fault (range_checks m [] (take i ps)) ≡ None) where
+  pub range_more : (range_check m (take i ps) (get_or ps i no_payment)).passes ≡ true → first_fault (range_checks m [] (take (i + 1) ps)) ≡ None
+  range_more p = rw (take_more ps i no_payment h, range-append) (passes_then (range_checks m [] (take i ps)) (range_check m (take i ps) (get_or ps i no_payment)) [] before p)
 
-    pub range_fails : (range_check m (take i ps) (get_or ps i d)).passes ≡ false → first_fault (range_checks m [] ps) ≡ Some (range_check m (take i ps) (get_or ps i d)).fault
-    range_fails p = rw parted (fails_then (range_checks m [] (take i ps)) (range_check m (take i ps) (get_or ps i d)) _ before p)
+  pub range_fails : (range_check m (take i ps) (get_or ps i no_payment)).passes ≡ false → (first_fault (range_checks m [] (take i ps)) ≡ None) × (first_fault (range_checks m [] ps) ≡ Some (range_check m (take i ps) (get_or ps i no_payment)).fault)
+  range_fails p = (before, rw (parted m ps i no_payment h) (fails_then (range_checks m [] (take i ps)) (range_check m (take i ps) (get_or ps i no_payment)) _ before p))
+
+pub ruleset ranges = (range_more, range_fails, err_from_is_err_and, reaches_amount)
 
 -- a balance z goes on by a payment in range
 module _ (m : Meaning) (ps : List Payment) (i : ℕ) (d : Payment) (h : i < length ps) (low : Within m.lowest) (high : Within m.highest) (ok : first_fault (range_checks m [] ps) ≡ None) where

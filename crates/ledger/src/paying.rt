@@ -36,6 +36,7 @@ fn balance_after<L: CashLedger>(ledger: &L, payments: &[Payment], account: u32) 
 }
 
 // The first payment that is too large or takes its account out of the ledger's range.
+#[tactic(auto, using(crate::proofs::Paid::ranges))]
 fn check_range<L: CashLedger>(ledger: &L, payments: &[Payment]) -> Result<(), Fault>
     ensures { result ≡ verdict tt (first_fault (range_checks (meaning L.BalanceReader.balances L.CashLedger.terms ledger.now) [] payments.now)) }
 {
