@@ -15,7 +15,7 @@ use Rattle.faults.specs.Checks.{first_fault}
 use Rattle.ledger.specs.Limits.{Within, is_zero}
 use Rattle.ledger.specs.Meaning.{Meaning}
 use Rattle.ledger.specs.Payments.{Raised, Paid, due, made, known_check, range_check, range_checks, capacity_check, fault_of, fault_of_all}
-use Rattle.faults.proofs.Rows.{cut, or_else, first-append, none_both, passed, passes_then, fails_then}
+use Rattle.faults.proofs.Rows.{map_more, map_fails, cut, or_else, first-append, none_both, passed, passes_then, fails_then}
 use Rattle.ledger.proofs.Money.{reaches_amount, back, reached_within}
 use Rattle.ledger.proofs.Refused.{not_refused}
 
@@ -64,6 +64,16 @@ module _ (m : Meaning) (ps : List Payment) (i : ℕ) (d : Payment) (h : i < leng
 
   pub range_at : first_fault (range_checks m [] ps) ≡ None → (range_check m (take i ps) (get_or ps i d)).passes ≡ true
   range_at e = passed (range_checks m [] (take i ps)) (range_check m (take i ps) (get_or ps i d)) _ (rw parted at e)
+
+-- one turn of the loop that checks each account
+module _ (m : Meaning) (ps : List Payment) (i : ℕ) (h : i < length ps) (before : first_fault (map (known_check m) (take i ps)) ≡ None) where
+  pub known_more : (known_check m (get_or ps i no_payment)).passes ≡ true → first_fault (map (known_check m) (take (i + 1) ps)) ≡ None
+  known_more p = map_more (known_check m) ps i no_payment h before p
+
+  pub known_fails : (known_check m (get_or ps i no_payment)).passes ≡ false → (first_fault (map (known_check m) (take i ps)) ≡ None) × (first_fault (map (known_check m) ps) ≡ Some (known_check m (get_or ps i no_payment)).fault)
+  known_fails p = (before, map_fails (known_check m) ps i no_payment h before p)
+
+pub ruleset accounts = (known_more, known_fails, err_from_is_err_and)
 
 -- one turn of the loop that checks each range
 module _ (m : Meaning) (ps : List Payment) (i : ℕ) (h : i < length ps) (before : first_fault (range_checks m [] (take i ps)) ≡ None) where

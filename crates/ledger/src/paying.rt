@@ -9,6 +9,7 @@ use crate::traits::{BalanceReader, CashLedger};
 use faults::{Fault, Refusal, require};
 
 // The first account to be paid that the ledger does not know.
+#[tactic(auto, using(crate::proofs::Paid::accounts))]
 fn check_known<L: CashLedger>(ledger: &L, payments: &[Payment]) -> Result<(), Fault>
     ensures { result ≡ verdict tt (first_fault (map (known_check (meaning L.BalanceReader.balances L.CashLedger.terms ledger.now)) payments.now)) }
 {
