@@ -62,6 +62,9 @@ module _ (m : Meaning) (ps : List Payment) (i : ℕ) (d : Payment) (h : i < leng
   parted : range_checks m [] ps ≡ range_checks m [] (take i ps) ++ (range_check m (take i ps) (get_or ps i d) ∷ range_checks m (take i ps ++ (get_or ps i d ∷ [])) (drop (i + 1) ps))
   parted = ap (range_checks m []) (cut ps i d h) ∙ range-append m [] (take i ps) (get_or ps i d ∷ drop (i + 1) ps)
 
+  pub known_at : first_fault (map (known_check m) ps) ≡ None → (known_check m (get_or ps i d)).passes ≡ true
+  known_at e = passed (map (known_check m) (take i ps)) (known_check m (get_or ps i d)) (map (known_check m) (drop (i + 1) ps)) (rw (cut ps i d h, map-append) at e)
+
   pub range_at : first_fault (range_checks m [] ps) ≡ None → (range_check m (take i ps) (get_or ps i d)).passes ≡ true
   range_at e = passed (range_checks m [] (take i ps)) (range_check m (take i ps) (get_or ps i d)) _ (rw parted at e)
 
@@ -89,16 +92,15 @@ pub ruleset ranges = (range_more, range_fails, err_from_is_err_and, reaches_amou
 module _ (m : Meaning) (ps : List Payment) (i : ℕ) (d : Payment) (h : i < length ps) (low : Within m.lowest) (high : Within m.highest) (ok : first_fault (range_checks m [] ps) ≡ None) where
   pub next_sum : (z : ℤ) → SFits w64 z → SFits w64 (get_or ps i d).amount → (a : ℕ) → z ≡ m.balance a +ℤ due (take i ps) a → (get_or ps i d).account ≡ a → SFits w64 (z +ℤ back (get_or ps i d).amount) × (back (z +ℤ back (get_or ps i d).amount) ≡ m.balance a +ℤ due (take (i + 1) ps) a)
   next_sum z f g a e is =
-      let p = get_or ps i d in
       let t = range_at m ps i d h ok in
-      let s : SFits w64 (z +ℤ p.amount) = grind (arith, nat_tests, ints, zero_is, reached_within) in
-      let u = due_here (take i ps) p a is in
+      let s : SFits w64 (z +ℤ (get_or ps i d).amount) = grind (arith, nat_tests, ints, zero_is, reached_within) in
+      let u = due_here (take i ps) (get_or ps i d) a is in
       simp to_z-of_z (s, rw (take_more ps i d h) (omega (arith, ints)))
 
 -- ---- the ledger
 
 pub paid_none : (m : Meaning) → Paid m [] m
-paid_none m = record { known = λ _. refl; balance = λ a. sym (+ℤ_idr (m.balance a)); no_more = omega arith; few_less = omega arith; lowest = refl; highest = refl }
+paid_none m = record { known = λ _. refl; balance = λ a. omega (arith, ints); no_more = omega arith; few_less = omega arith; lowest = refl; highest = refl }
 
 -- one turn of the loop that pays
 module _ (m : Meaning) (ps : List Payment) (ok : fault_of_all m ps ≡ None) (i : ℕ) (d : Payment) (h : i < length ps) (n : Meaning) (paid : Paid m (take i ps) n) where
@@ -128,15 +130,12 @@ module _ (m : Meaning) (ps : List Payment) (ok : fault_of_all m ps ≡ None) (i 
 
     pub never_refused : fault_of n (get_or ps i d).account (get_or ps i d).amount ≡ None
     never_refused =
-        let p = get_or ps i d in
-        let first = none_both (first_fault (map (known_check m) ps)) (or_else (first_fault (range_checks m [] ps)) (first_fault (capacity_check m ps ∷ []))) (sym (kinds m ps) ∙ ok) in
-        let second = none_both (first_fault (range_checks m [] ps)) (first_fault (capacity_check m ps ∷ [])) first.1 in
-        let k = passed (map (known_check m) (take i ps)) (known_check m p) (map (known_check m) (drop (i + 1) ps)) (rw (cut ps i d h, map-append) at first.0) in
-        let r = range_at m ps i d h second.0 in
-        let room = passed [] (capacity_check m ps) [] second.1 in
+        let all = kinds m ps in
+        let k = known_at m ps i d h in
+        let r = range_at m ps i d h in
         let count = counted in
         let part = sum_by-take-le (λ (q : Payment). cond (not (is_zero q.amount)) 1 0) ps (i + 1) in
         let less = paid.few_less in
-        let known = paid.known p.account in
-        let balance = paid.balance p.account in
+        let known = paid.known (get_or ps i d).account in
+        let balance = paid.balance (get_or ps i d).account in
         grind (arith, nat_tests, not_refused)
