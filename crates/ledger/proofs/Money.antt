@@ -45,4 +45,5 @@ wide z f = omega (arith, ints)
 pub wide_sum : (a b : ℤ) → SFits w64 a → SFits w64 b → to_z w128 (of_z w128 (a +ℤ b)) ≡ a +ℤ b
 wide_sum a b f g = let s : SFits w128 (a +ℤ b) = omega (arith, ints) in to_z-of_z w128 (a +ℤ b) s
 
+-- what numbers that went through their bits are
 pub ruleset shown = (wide, wide_sum, to_z-of_z, ints)

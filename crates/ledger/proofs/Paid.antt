@@ -1,9 +1,6 @@
 -- One payment after another.
-use Rattle.std.proofs.Common.{◌≡◌, ℕ, ◌+◌, ◌<◌, ◌≤◌, true, false, cond, not, eqb, List, [], ◌∷◌, ◌++◌, map, length, get_or, take, drop, ℤ, pos, ◌+ℤ◌, nat_abs, None, Some, inl, sym, refl, ap, ◌∙◌, append_assoc, arith, w64, SFits, leb-true}
-use Rattle.std.proofs.Common.{Result, Err}
+use Rattle.std.proofs.Common.{◌≡◌, ℕ, ◌+◌, ◌<◌, ◌≤◌, true, false, cond, not, eqb, List, [], ◌∷◌, ◌++◌, map, length, get_or, take, drop, ℤ, pos, ◌+ℤ◌, nat_abs, None, Some, Result, Err, inl, refl, ap, ◌∙◌, append_assoc, arith, w64, SFits, leb-true}
 use Rattle.faults.specs.declared.Fault.{Fault}
-use Rattle.ledger.specs.Payments.{PaysAll}
-use Rattle.ledger.proofs.Refused.{same_self}
 use Rattle.std.proofs.lemmas.Result.{err_from_is_err_and}
 use lib.IntN.{+ℤ_idr}
 use Rattle.std.proofs.lemmas.List.{append-nil, map-append, take_more}
@@ -14,10 +11,10 @@ use Rattle.ledger.specs.declared.payment.Payment.{Payment}
 use Rattle.faults.specs.Checks.{first_fault}
 use Rattle.ledger.specs.Limits.{Within, is_zero}
 use Rattle.ledger.specs.Meaning.{Meaning}
-use Rattle.ledger.specs.Payments.{Raised, Paid, due, made, known_check, range_check, range_checks, capacity_check, fault_of, fault_of_all}
-use Rattle.faults.proofs.Rows.{map_more, map_fails, cut, or_else, first-append, none_both, passed, passes_then, fails_then}
+use Rattle.ledger.specs.Payments.{Raised, Paid, PaysAll, due, made, known_check, range_check, range_checks, capacity_check, fault_of, fault_of_all}
+use Rattle.faults.proofs.Rows.{map_more, map_fails, cut, or_else, first-append, passed, passes_then, fails_then}
 use Rattle.ledger.proofs.Money.{reaches_amount, back, reached_within}
-use Rattle.ledger.proofs.Refused.{not_refused}
+use Rattle.ledger.proofs.Refused.{same_self, not_refused}
 
 -- what stands past the end of a row of payments
 abbrev pub no_payment : Payment
@@ -49,13 +46,15 @@ pub kinds : (m : Meaning) (ps : List Payment) → fault_of_all m ps ≡ or_else 
 unfolding fault_of_all
 kinds m ps = simp first-append
 
+-- a row that is refused changes nothing
 pub pays_failed : {U : Type 0} (m : Meaning) (ps : List Payment) (r : Result U Fault) (f : Fault) → r ≡ Err f → fault_of_all m ps ≡ Some f → PaysAll m ps r m
 pays_failed m ps r f e s = rw e (s, same_self m)
 
+-- what the exits of such a row need
 pub ruleset exits = (kinds, err_from_is_err_and, pays_failed)
 
 pub all_pass : (m : Meaning) (ps : List Payment) → first_fault (map (known_check m) ps) ≡ None → first_fault (range_checks m [] ps) ≡ None → (capacity_check m ps).passes ≡ true → fault_of_all m ps ≡ None
-all_pass m ps k r t = kinds m ps ∙ rw (k, r, t)
+all_pass m ps k r t = grind (arith, kinds)
 
 -- at the place i
 module _ (m : Meaning) (ps : List Payment) (i : ℕ) (d : Payment) (h : i < length ps) where
@@ -76,8 +75,6 @@ module _ (m : Meaning) (ps : List Payment) (i : ℕ) (h : i < length ps) (before
   pub known_fails : (known_check m (get_or ps i no_payment)).passes ≡ false → (first_fault (map (known_check m) (take i ps)) ≡ None) × (first_fault (map (known_check m) ps) ≡ Some (known_check m (get_or ps i no_payment)).fault)
   known_fails p = (before, map_fails (known_check m) ps i no_payment h before p)
 
-pub ruleset accounts = (known_more, known_fails, err_from_is_err_and)
-
 -- one turn of the loop that checks each range
 module _ (m : Meaning) (ps : List Payment) (i : ℕ) (h : i < length ps) (before : first_fault (range_checks m [] (take i ps)) ≡ None) where
   pub range_more : (range_check m (take i ps) (get_or ps i no_payment)).passes ≡ true → first_fault (range_checks m [] (take (i + 1) ps)) ≡ None
@@ -86,7 +83,8 @@ module _ (m : Meaning) (ps : List Payment) (i : ℕ) (h : i < length ps) (before
   pub range_fails : (range_check m (take i ps) (get_or ps i no_payment)).passes ≡ false → (first_fault (range_checks m [] (take i ps)) ≡ None) × (first_fault (range_checks m [] ps) ≡ Some (range_check m (take i ps) (get_or ps i no_payment)).fault)
   range_fails p = (before, rw (parted m ps i no_payment h) (fails_then (range_checks m [] (take i ps)) (range_check m (take i ps) (get_or ps i no_payment)) _ before p))
 
-pub ruleset ranges = (range_more, range_fails, err_from_is_err_and, reaches_amount)
+-- what both of these loops need
+pub ruleset turns = (known_more, known_fails, range_more, range_fails, reaches_amount, err_from_is_err_and)
 
 -- a balance z goes on by a payment in range
 module _ (m : Meaning) (ps : List Payment) (i : ℕ) (d : Payment) (h : i < length ps) (low : Within m.lowest) (high : Within m.highest) (ok : first_fault (range_checks m [] ps) ≡ None) where

@@ -9,7 +9,7 @@ use crate::traits::{BalanceReader, CashLedger};
 use faults::{Fault, Refusal, require};
 
 // The first account to be paid that the ledger does not know.
-#[tactic(auto, using(crate::proofs::Paid::accounts))]
+#[tactic(auto, using(crate::proofs::Paid::turns))]
 fn check_known<L: CashLedger>(ledger: &L, payments: &[Payment]) -> Result<(), Fault>
     ensures { result ≡ verdict tt (first_fault (map (known_check (meaning L.BalanceReader.balances L.CashLedger.terms ledger.now)) payments.now)) }
 {
@@ -37,7 +37,7 @@ fn balance_after<L: CashLedger>(ledger: &L, payments: &[Payment], account: u32) 
 }
 
 // The first payment that is too large or takes its account out of the ledger's range.
-#[tactic(auto, using(crate::proofs::Paid::ranges))]
+#[tactic(auto, using(crate::proofs::Paid::turns))]
 fn check_range<L: CashLedger>(ledger: &L, payments: &[Payment]) -> Result<(), Fault>
     ensures { result ≡ verdict tt (first_fault (range_checks (meaning L.BalanceReader.balances L.CashLedger.terms ledger.now) [] payments.now)) }
 {
