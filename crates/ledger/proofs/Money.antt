@@ -1,11 +1,8 @@
 -- Signed amounts and balances in 64 bits.
-use Rattle.std.proofs.Common.{◌≡◌, ◌≤◌, true, ◌&&◌, ℤ, ◌+ℤ◌, nat_abs, ◌≤ℤ◌, arith, w64, SFits, to_z, of_z}
-use lib.Signed.{le_z}
-use mir.Syntax.{w128}
+use Rattle.std.proofs.Common.{◌≡◌, ◌≤◌, true, ℤ, ◌+ℤ◌, nat_abs, ◌≤ℤ◌, arith, w64, SFits, to_z, of_z}
 use Rattle.std.proofs.lemmas.Int.{to_z-of_z, ints}
-use Rattle.std.proofs.lemmas.Bool.{and_parts}
 use Rattle.std.proofs.lemmas.Bool.Decides.{nat_tests}
-use Rattle.ledger.specs.Limits.{Within, inside, largest_payment, reaches}
+use Rattle.ledger.specs.Limits.{Within, reaches}
 
 -- an amount that is passed or computed shows as its bits and back
 abbrev pub back : ℤ → ℤ
@@ -39,12 +36,3 @@ reach l h b x r = grind (arith, nat_tests, ints)
 
 pub reached_within : (l h b x : ℤ) → Within l → Within h → reaches l h b x ≡ true → Within (b +ℤ x)
 reached_within l h b x f g e = let r = reached l h b x e in let lo = r.above in let hi = r.below in omega (arith, ints)
-
--- a sum in 128 bits, and either of its parts
-pub wide : (z : ℤ) → SFits w64 z → SFits w128 z
-wide z f = omega (arith, ints)
-
-pub wide_sum : (a b : ℤ) → SFits w64 a → SFits w64 b → to_z w128 (of_z w128 (a +ℤ b)) ≡ a +ℤ b
-wide_sum a b f g = let s : SFits w128 (a +ℤ b) = omega (arith, ints) in to_z-of_z w128 (a +ℤ b) s
-
-pub ruleset shown = (wide, wide_sum, to_z-of_z, ints)

@@ -1,19 +1,20 @@
 -- One payment after another.
-use Rattle.std.proofs.Common.{◌≡◌, ℕ, ◌+◌, ◌<◌, ◌≤◌, Bool, true, false, cond, ◌||◌, not, eqb, List, [], ◌∷◌, ◌++◌, map, length, get_or, take, drop, ℤ, pos, ◌+ℤ◌, nat_abs, None, Some, inl, inr, sym, refl, ap, ◌∙◌, append_assoc, arith, w64, SFits, leb-true}
+use Rattle.std.proofs.Common.{◌≡◌, ℕ, ◌+◌, ◌<◌, ◌≤◌, true, false, cond, not, eqb, List, [], ◌∷◌, ◌++◌, map, length, get_or, take, drop, ℤ, pos, ◌+ℤ◌, nat_abs, None, Some, Result, Err, inl, refl, ap, ◌∙◌, append_assoc, arith, w64, SFits, leb-true}
+use Rattle.faults.specs.declared.Fault.{Fault}
+use Rattle.std.proofs.lemmas.Result.{err_from_is_err_and}
 use lib.IntN.{+ℤ_idr}
 use Rattle.std.proofs.lemmas.List.{append-nil, map-append, take_more}
 use Rattle.std.proofs.lemmas.List.Sums.{count_by_more_no, count_by_more_yes, sum_by-take-le}
 use Rattle.std.proofs.lemmas.Int.{to_z-of_z, ints}
-use Rattle.std.proofs.lemmas.Bool.{cases_Bool}
 use Rattle.std.proofs.lemmas.Bool.Decides.{nat_tests}
 use Rattle.ledger.specs.declared.payment.Payment.{Payment}
 use Rattle.faults.specs.Checks.{first_fault}
-use Rattle.ledger.specs.Limits.{Within, is_zero, reaches}
+use Rattle.ledger.specs.Limits.{Within, is_zero}
 use Rattle.ledger.specs.Meaning.{Meaning}
-use Rattle.ledger.specs.Payments.{Raised, Paid, due, made, known_check, range_check, range_checks, capacity_check, fault_of, fault_of_all}
-use Rattle.faults.proofs.Rows.{cut, or_else, first-append, none_both, passed, passes_then, fails_then}
-use Rattle.ledger.proofs.Money.{back, fits_within, reached_within}
-use Rattle.ledger.proofs.Refused.{not_refused, raised_at}
+use Rattle.ledger.specs.Payments.{Raised, Paid, PaysAll, due, made, known_check, range_check, range_checks, capacity_check, fault_of, fault_of_all}
+use Rattle.faults.proofs.Rows.{map_more, map_fails, cut, or_else, first-append, passed, passes_then, fails_then}
+use Rattle.ledger.proofs.Money.{reaches_amount, back, reached_within}
+use Rattle.ledger.proofs.Refused.{same_self, not_refused}
 
 -- what stands past the end of a row of payments
 abbrev pub no_payment : Payment
@@ -45,53 +46,67 @@ pub kinds : (m : Meaning) (ps : List Payment) → fault_of_all m ps ≡ or_else 
 unfolding fault_of_all
 kinds m ps = simp first-append
 
+-- a row that is refused changes nothing
+pub pays_failed : {U : Type 0} (m : Meaning) (ps : List Payment) (r : Result U Fault) (f : Fault) → r ≡ Err f → fault_of_all m ps ≡ Some f → PaysAll m ps r m
+pays_failed m ps r f e s = rw e (s, same_self m)
+
+-- what the exits of such a row need
+pub ruleset exits = (kinds, err_from_is_err_and, pays_failed)
+
 pub all_pass : (m : Meaning) (ps : List Payment) → first_fault (map (known_check m) ps) ≡ None → first_fault (range_checks m [] ps) ≡ None → (capacity_check m ps).passes ≡ true → fault_of_all m ps ≡ None
-all_pass m ps k r t = kinds m ps ∙ rw (k, r, t)
+all_pass m ps k r t = grind (arith, kinds)
 
 -- at the place i
 module _ (m : Meaning) (ps : List Payment) (i : ℕ) (d : Payment) (h : i < length ps) where
   parted : range_checks m [] ps ≡ range_checks m [] (take i ps) ++ (range_check m (take i ps) (get_or ps i d) ∷ range_checks m (take i ps ++ (get_or ps i d ∷ [])) (drop (i + 1) ps))
   parted = ap (range_checks m []) (cut ps i d h) ∙ range-append m [] (take i ps) (get_or ps i d ∷ drop (i + 1) ps)
 
+  pub known_at : first_fault (map (known_check m) ps) ≡ None → (known_check m (get_or ps i d)).passes ≡ true
+  known_at e = passed (map (known_check m) (take i ps)) (known_check m (get_or ps i d)) (map (known_check m) (drop (i + 1) ps)) (rw (cut ps i d h, map-append) at e)
+
   pub range_at : first_fault (range_checks m [] ps) ≡ None → (range_check m (take i ps) (get_or ps i d)).passes ≡ true
   range_at e = passed (range_checks m [] (take i ps)) (range_check m (take i ps) (get_or ps i d)) _ (rw parted at e)
 
-  module _ (before : first_fault (range_checks m [] (take i ps)) ≡ None) where
-    pub range_more : (range_check m (take i ps) (get_or ps i d)).passes ≡ true → first_fault (range_checks m [] (take (i + 1) ps)) ≡ None
-    range_more p = rw (take_more ps i d h, range-append) (passes_then (range_checks m [] (take i ps)) (range_check m (take i ps) (get_or ps i d)) [] before p)
+-- one turn of the loop that checks each account
+module _ (m : Meaning) (ps : List Payment) (i : ℕ) (h : i < length ps) (before : first_fault (map (known_check m) (take i ps)) ≡ None) where
+  pub known_more : (known_check m (get_or ps i no_payment)).passes ≡ true → first_fault (map (known_check m) (take (i + 1) ps)) ≡ None
+  known_more p = map_more (known_check m) ps i no_payment h before p
 
-    pub range_fails : (range_check m (take i ps) (get_or ps i d)).passes ≡ false → first_fault (range_checks m [] ps) ≡ Some (range_check m (take i ps) (get_or ps i d)).fault
-    range_fails p = rw parted (fails_then (range_checks m [] (take i ps)) (range_check m (take i ps) (get_or ps i d)) _ before p)
+  pub known_fails : (known_check m (get_or ps i no_payment)).passes ≡ false → (first_fault (map (known_check m) (take i ps)) ≡ None) × (first_fault (map (known_check m) ps) ≡ Some (known_check m (get_or ps i no_payment)).fault)
+  known_fails p = (before, map_fails (known_check m) ps i no_payment h before p)
+
+-- one turn of the loop that checks each range
+module _ (m : Meaning) (ps : List Payment) (i : ℕ) (h : i < length ps) (before : first_fault (range_checks m [] (take i ps)) ≡ None) where
+  pub range_more : (range_check m (take i ps) (get_or ps i no_payment)).passes ≡ true → first_fault (range_checks m [] (take (i + 1) ps)) ≡ None
+  range_more p = rw (take_more ps i no_payment h, range-append) (passes_then (range_checks m [] (take i ps)) (range_check m (take i ps) (get_or ps i no_payment)) [] before p)
+
+  pub range_fails : (range_check m (take i ps) (get_or ps i no_payment)).passes ≡ false → (first_fault (range_checks m [] (take i ps)) ≡ None) × (first_fault (range_checks m [] ps) ≡ Some (range_check m (take i ps) (get_or ps i no_payment)).fault)
+  range_fails p = (before, rw (parted m ps i no_payment h) (fails_then (range_checks m [] (take i ps)) (range_check m (take i ps) (get_or ps i no_payment)) _ before p))
+
+-- what both of these loops need
+pub ruleset turns = (known_more, known_fails, range_more, range_fails, reaches_amount, err_from_is_err_and)
 
 -- a balance z goes on by a payment in range
 module _ (m : Meaning) (ps : List Payment) (i : ℕ) (d : Payment) (h : i < length ps) (low : Within m.lowest) (high : Within m.highest) (ok : first_fault (range_checks m [] ps) ≡ None) where
   pub next_sum : (z : ℤ) → SFits w64 z → SFits w64 (get_or ps i d).amount → (a : ℕ) → z ≡ m.balance a +ℤ due (take i ps) a → (get_or ps i d).account ≡ a → SFits w64 (z +ℤ back (get_or ps i d).amount) × (back (z +ℤ back (get_or ps i d).amount) ≡ m.balance a +ℤ due (take (i + 1) ps) a)
   next_sum z f g a e is =
-      let p = get_or ps i d in
       let t = range_at m ps i d h ok in
-      let s : SFits w64 (z +ℤ p.amount) = elim (cases_Bool (is_zero p.amount)) [
-        | inl k ↦ (let x = zero_is p.amount k in let y : z +ℤ p.amount ≡ z = omega (arith, ints) in rw y f)
-        | inr k ↦ (let r : reaches m.lowest m.highest (m.balance p.account +ℤ due (take i ps) p.account) p.amount ≡ true = rw k at t in
-            fits_within _ (rw e (rw is at (reached_within _ _ _ _ low high r))))
-      ] in
-      let u = due_here (take i ps) p a is in
-      rw (to_z-of_z w64 p.amount g, to_z-of_z w64 _ s, take_more ps i d h) (s, omega (arith, ints))
+      let s : SFits w64 (z +ℤ (get_or ps i d).amount) = grind (arith, nat_tests, ints, zero_is, reached_within) in
+      let u = due_here (take i ps) (get_or ps i d) a is in
+      simp to_z-of_z (s, rw (take_more ps i d h) (omega (arith, ints)))
 
 -- ---- the ledger
 
 pub paid_none : (m : Meaning) → Paid m [] m
-paid_none m = record { known = λ _. refl; balance = λ a. sym (+ℤ_idr (m.balance a)); no_more = omega arith; few_less = omega arith; lowest = refl; highest = refl }
+paid_none m = record { known = λ _. refl; balance = λ a. omega (arith, ints); no_more = omega arith; few_less = omega arith; lowest = refl; highest = refl }
 
 -- one turn of the loop that pays
 module _ (m : Meaning) (ps : List Payment) (ok : fault_of_all m ps ≡ None) (i : ℕ) (d : Payment) (h : i < length ps) (n : Meaning) (paid : Paid m (take i ps) n) where
   raised_paid : (o : Meaning) → Raised n (get_or ps i d).account (get_or ps i d).amount o → n.capacity + made (take i ps) ≤ o.capacity + made (take (i + 1) ps) → Paid m (take (i + 1) ps) o
   raised_paid o r few =
-      let less = paid.few_less in
-      let no = paid.no_more in
-      let room = r.capacity in
       record {
         known = λ b. r.known b ∙ paid.known b;
-        balance = λ b. (let e = raised_at n (get_or ps i d).account (get_or ps i d).amount o r b in let g = paid.balance b in let s = due_one (take i ps) (get_or ps i d) b in rw (take_more ps i d h) (omega (arith, ints)));
+        balance = λ b. (let here = r.here in let others = r.others b in let g = paid.balance b in let s = due_one (take i ps) (get_or ps i d) b in rw (take_more ps i d h) (grind (arith, nat_tests, ints)));
         no_more = omega arith;
         few_less = omega arith;
         lowest = r.lowest ∙ paid.lowest;
@@ -113,13 +128,12 @@ module _ (m : Meaning) (ps : List Payment) (ok : fault_of_all m ps ≡ None) (i 
 
     pub never_refused : fault_of n (get_or ps i d).account (get_or ps i d).amount ≡ None
     never_refused =
-        let p = get_or ps i d in
-        let first = none_both (first_fault (map (known_check m) ps)) (or_else (first_fault (range_checks m [] ps)) (first_fault (capacity_check m ps ∷ []))) (sym (kinds m ps) ∙ ok) in
-        let second = none_both (first_fault (range_checks m [] ps)) (first_fault (capacity_check m ps ∷ [])) first.1 in
-        let k : m.known p.account ≡ true = rw z at (passed (map (known_check m) (take i ps)) (known_check m p) (map (known_check m) (drop (i + 1) ps)) (rw (cut ps i d h, map-append) at first.0)) in
-        let r : reaches m.lowest m.highest (m.balance p.account +ℤ due (take i ps) p.account) p.amount ≡ true = rw z at (range_at m ps i d h second.0) in
-        let room = leb-true (made ps) m.capacity (passed [] (capacity_check m ps) [] second.1) in
+        let all = kinds m ps in
+        let k = known_at m ps i d h in
+        let r = range_at m ps i d h in
         let count = counted in
         let part = sum_by-take-le (λ (q : Payment). cond (not (is_zero q.amount)) 1 0) ps (i + 1) in
         let less = paid.few_less in
-        not_refused n p.account p.amount (paid.known p.account ∙ k) (rw (paid.lowest, paid.highest, paid.balance p.account) r) (omega arith)
+        let known = paid.known (get_or ps i d).account in
+        let balance = paid.balance (get_or ps i d).account in
+        grind (arith, nat_tests, not_refused)

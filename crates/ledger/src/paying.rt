@@ -9,6 +9,7 @@ use crate::traits::{BalanceReader, CashLedger};
 use faults::{Fault, Refusal, require};
 
 // The first account to be paid that the ledger does not know.
+#[tactic(auto, using(crate::proofs::Paid::turns))]
 fn check_known<L: CashLedger>(ledger: &L, payments: &[Payment]) -> Result<(), Fault>
     ensures { result ≡ verdict tt (first_fault (map (known_check (meaning L.BalanceReader.balances L.CashLedger.terms ledger.now)) payments.now)) }
 {
@@ -36,6 +37,7 @@ fn balance_after<L: CashLedger>(ledger: &L, payments: &[Payment], account: u32) 
 }
 
 // The first payment that is too large or takes its account out of the ledger's range.
+#[tactic(auto, using(crate::proofs::Paid::turns))]
 fn check_range<L: CashLedger>(ledger: &L, payments: &[Payment]) -> Result<(), Fault>
     ensures { result ≡ verdict tt (first_fault (range_checks (meaning L.BalanceReader.balances L.CashLedger.terms ledger.now) [] payments.now)) }
 {
@@ -72,6 +74,7 @@ fn make_all<L: CashLedger>(ledger: &mut L, payments: &[Payment]) -> Result<(), F
 
 // Makes payments in their order. All are checked first: all accounts, then all balances, each with the payments before
 // it counted, then the capacity. A payment of zero is not made, and never refused.
+#[tactic(auto, using(crate::proofs::Paid::exits))]
 pub fn pay_all<L: CashLedger>(ledger: &mut L, payments: &[Payment]) -> Result<(), Fault>
     ensures { PaysAll (meaning L.BalanceReader.balances L.CashLedger.terms ledger.old) payments.now result (meaning L.BalanceReader.balances L.CashLedger.terms ledger.new) }
 {

@@ -29,7 +29,6 @@ impl Terms {
     }
 
     // Whether a payment is small enough and leaves a balance in the range.
-    #[tactic(auto, unfolding(crate::specs::Limits::reaches), using(crate::proofs::Money::shown))]
     pub fn reaches(self, balance: i64, amount: i64) -> bool
         ensures { result ≡ reaches_in self.lowest self.highest balance amount }
     {

@@ -1,6 +1,5 @@
-use Rattle.std.proofs.Common.{get_or, sym, ◌∙◌, w64, SFits, rules}
+use Rattle.std.proofs.Common.{arith, get_or, sym, ◌∙◌, w64, SFits, rules}
 use Rattle.std.proofs.lemmas.Int.{to_z-of_z}
-use Rattle.faults.proofs.Rows.{clash}
 use Rattle.ledger.specs.Meaning.{Meaning, meaning}
 use Rattle.ledger.proofs.Paid.{next_zero, next_paid, never_refused, no_payment}
 use Rattle.ledger.proofs.paying.make_all.Goals as goal
@@ -8,8 +7,8 @@ use Rattle.ledger.proofs.paying.make_all.Goals.{then-not-is_zero+in_ok-pay, else
 
 pub returns-in_err-pay : goal.returns-in_err-pay
 returns-in_err-pay g c =
-    let f : SFits w64 (get_or c.args.payments.now c.loop-payment.payment-index no_payment).amount = search rules in
-    clash _ _ (never_refused (meaning g.L.BalanceReader.balances g.L.CashLedger.terms c.args.ledger.now) _ c.requires _ _ c.loop-payment-test.true _ c.loop-payment.invariant (sym c.is_zero.ensures ∙ c.if-not-is_zero.true)) (rw (to_z-of_z w64 _ f) at c.in_err-pay.ensures.0)
+    let unrefused = never_refused (meaning g.L.BalanceReader.balances g.L.CashLedger.terms c.args.ledger.now) _ c.requires _ no_payment c.loop-payment-test.true _ c.loop-payment.invariant in
+    grind (arith, to_z-of_z)
 
 pub loop-payment-preserved : goal.loop-payment-preserved
 loop-payment-preserved g c =
