@@ -9,7 +9,7 @@ use Rattle.std.proofs.lemmas.Int.{to_z-of_z, ints}
 use Rattle.std.proofs.lemmas.Bool.Decides.{nat_tests}
 use Rattle.ledger.specs.declared.payment.Payment.{Payment}
 use Rattle.faults.specs.Checks.{first_fault}
-use Rattle.ledger.specs.Limits.{Within, is_zero}
+use Rattle.ledger.specs.Limits.{Within, is_zero, reaches}
 use Rattle.ledger.specs.Meaning.{Meaning}
 use Rattle.ledger.specs.Payments.{Raised, Paid, PaysAll, due, made, known_check, range_check, range_checks, capacity_check, fault_of, fault_of_all}
 use Rattle.faults.proofs.Rows.{map_more, map_fails, cut, or_else, first-append, passed, passes_then, fails_then}
@@ -100,6 +100,15 @@ module _ (m : Meaning) (ps : List Payment) (i : ℕ) (d : Payment) (h : i < leng
 pub paid_none : (m : Meaning) → Paid m [] m
 paid_none m = record { known = λ _. refl; balance = λ a. omega (arith, ints); no_more = omega arith; few_less = omega arith; lowest = refl; highest = refl }
 
+-- a payment that was checked with those before it counted is not refused after them
+pub still_open : (m : Meaning) (ps : List Payment) (n : Meaning) → Paid m ps n → (p : Payment) → m.known p.account ≡ true → reaches m.lowest m.highest (m.balance p.account +ℤ due ps p.account) p.amount ≡ true → made ps < m.capacity → fault_of n p.account p.amount ≡ None
+still_open m ps n paid p k e h =
+    let low = paid.lowest in
+    let high = paid.highest in
+    let here = paid.balance p.account in
+    let few = paid.few_less in
+    not_refused n p.account p.amount (paid.known p.account ∙ k) (rw (low, high, here) e) (omega arith)
+
 -- one turn of the loop that pays
 module _ (m : Meaning) (ps : List Payment) (ok : fault_of_all m ps ≡ None) (i : ℕ) (d : Payment) (h : i < length ps) (n : Meaning) (paid : Paid m (take i ps) n) where
   raised_paid : (o : Meaning) → Raised n (get_or ps i d).account (get_or ps i d).amount o → n.capacity + made (take i ps) ≤ o.capacity + made (take (i + 1) ps) → Paid m (take (i + 1) ps) o
@@ -133,7 +142,4 @@ module _ (m : Meaning) (ps : List Payment) (ok : fault_of_all m ps ≡ None) (i 
         let r = range_at m ps i d h in
         let count = counted in
         let part = sum_by-take-le (λ (q : Payment). cond (not (is_zero q.amount)) 1 0) ps (i + 1) in
-        let less = paid.few_less in
-        let known = paid.known (get_or ps i d).account in
-        let balance = paid.balance (get_or ps i d).account in
-        grind (arith, nat_tests, not_refused)
+        still_open m (take i ps) n paid (get_or ps i d) (grind (arith, nat_tests)) (grind (arith, nat_tests)) (grind (arith, nat_tests))
