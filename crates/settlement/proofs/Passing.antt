@@ -4,9 +4,10 @@ use lib.IntN.{+ℤ_idl, +ℤ_idr}
 use Rattle.std.proofs.lemmas.Bool.{ne_eqb, and_parts, cond-true, cond-false}
 use Rattle.std.proofs.lemmas.Bool.Decides.{nat_tests}
 use Rattle.std.proofs.lemmas.List.{map-append}
+use Rattle.std.proofs.lemmas.Result.{err_from_is_err_and}
 use Rattle.faults.specs.declared.Fault.{Fault}
 use Rattle.faults.specs.Checks.{first_fault}
-use Rattle.faults.proofs.Rows.{Passes, all_pass, first-append, none_both, or_else, passed}
+use Rattle.faults.proofs.Rows.{Passes, all_pass, first-append, first_failed, first_passed, none_both, or_else, passed, verdict_passed, verdict_failed}
 use Rattle.ledger.specs.Limits.{is_zero, reaches}
 use Rattle.ledger.specs.Meaning.{Meaning}
 use Rattle.ledger.specs.Payments.{due, capacity_check, known_check, range_checks, fault_of_all}
@@ -122,3 +123,8 @@ module _ (m : Meaning) (last F : ℤ) where
           let u = all_pass _ units_none in
           let r = all_pass _ range_none in
           rw owed_all (paid_pass m (payments last F xs) (known_row xs (all_pass _ known_none) u r) (range_row [] xs up r) (passed [] (capacity_check m (payments last F xs)) [] capacity_none))
+
+-- what the last exits of these checks need, with a price and without
+pub ruleset ending = (last_among, verdict_passed, err_from_is_err_and)
+
+pub ruleset unpriced = (first_failed, first_passed, verdict_passed, verdict_failed, err_from_is_err_and)

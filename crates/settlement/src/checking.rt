@@ -99,6 +99,7 @@ fn count_payments(records: &[Keyed<Account>], repricing: Repricing) -> u64
 }
 
 // All accounts first, then all units, then all balances, then the capacity.
+#[tactic(auto, using(crate::proofs::Passing::ending))]
 pub(crate) fn check_payments<L: CashLedger>(
     records: &[Keyed<Account>],
     ledger: &L,
@@ -117,6 +118,7 @@ pub(crate) fn check_payments<L: CashLedger>(
 }
 
 // Without a price there are no payments: it is refused in any case, for units past their limit first.
+#[tactic(auto, using(crate::proofs::Passing::unpriced))]
 pub(crate) fn check_unpriced(records: &[Keyed<Account>]) -> Result<(), Fault>
     ensures { (m : Meaning) (last : ℤ) → result ≡ verdict tt (first_fault (pay_checks m last None records.now)) }
 {

@@ -5,6 +5,9 @@ use Rattle.settlement.proofs.Owed.{formed_is}
 use Rattle.settlement.proofs.Sizes.{cost_small}
 use Rattle.settlement.proofs.payment.Repricing.payment_of.Goals as goal
 
+pub overflow_add-earned : goal.overflow_add-earned
+overflow_add-earned c = omega (arith, ints)
+
 pub overflow_sub-result : goal.overflow_sub-result
 overflow_sub-result c =
     let w = and_parts _ _ c.if-has_units_within-has_cost_within.true in
