@@ -1,4 +1,4 @@
-// Payments of which all are checked before one is made.
+// Payments of which all are checked before one is made. The settlement's checks, which form a payment for each account, stand beside these and say why.
 ghost use Rattle.std.specs.Prelude.{◌≡◌, ℕ, [], map, ◌+ℤ◌, None};
 ghost use Rattle.faults.specs.Checks.{first_fault, verdict};
 ghost use Rattle.ledger.specs.Meaning.{meaning, reading_of};

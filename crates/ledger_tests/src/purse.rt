@@ -42,6 +42,7 @@ impl CashLedger for Purse {
         let balance = self
             .balance(account)
             .ok_or(Refusal::UnknownAccount.at(account))?;
+        // As in the journal: of these two lines one question of the trait would save one.
         self.terms().check(account, balance, amount)?;
         self.balance = Balance {
             value: balance + amount,

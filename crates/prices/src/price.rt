@@ -18,8 +18,7 @@ const RETURN_UNITS: u32 = 10_000;
 // One a year, as a rate in hundredths of a percent, over 360 days.
 const RATE_YEAR: u32 = 3_600_000;
 
-// A price, in ten-thousandths of a point. It shares with the other figures that it is bounded, and no function, so one type over
-// all their bounds would save nothing.
+// A price, in ten-thousandths of a point. That it has no type in common with the other figures is told at the head of the crate.
 #[derive(Clone, Copy, PartialEq, Eq)]
 pub struct Price {
     pub value: i64,

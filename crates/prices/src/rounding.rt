@@ -2,7 +2,8 @@
 ghost use Rattle.std.specs.Prelude.{◌≡◌, ◌+◌, ◌*◌, ◌^◌, ◌<◌, ◌≤◌, unsigned_abs};
 ghost use Rattle.prices.specs.Rounding.{nearest as nearest_of, nearestℤ};
 
-// The divisor is a plain number above 0: of a NonZeroU64 each caller would have to answer the None that making one may give.
+// The divisor is a plain number above 0. Of a NonZeroU64 each caller would have to answer the None that making one may give, and a
+// type of this crate would be made at each call, of one of two widths, and taken apart at once.
 
 // The nearest whole number to n / d, halves up.
 pub(crate) fn nearest(n: u64, d: u64) -> u64

@@ -17,7 +17,7 @@ const TICK_SIZE: u64 = 5;
 // Vega in thousands over twice a volatility in hundredths: 1,000 × 100 / 2.
 const HALF_VEGA: u64 = 50_000;
 
-// A variance, in ten-thousandths of a point.
+// A variance, in ten-thousandths of a point. It has no type in common with Price: the head of the crate says why.
 #[derive(Clone, Copy, PartialEq, Eq)]
 pub struct Variance {
     pub value: u64,

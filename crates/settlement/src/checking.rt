@@ -88,7 +88,7 @@ fn check_range<L: CashLedger>(
     })
 }
 
-// How many payments there are to make.
+// How many payments there are to make: one chain, as the ledger's count of a row is.
 fn count_payments(records: &[Keyed<Account>], repricing: Repricing) -> u64
     ensures { result ≡ made (map (owed repricing.last.value repricing.price.value) records.now) }
 {

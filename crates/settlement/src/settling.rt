@@ -36,7 +36,8 @@ fn pay_all<L: CashLedger>(
 }
 
 // Pays every account of the table at a price after the last one, in table order, and carries the records over. All is
-// checked before the first payment, and a refusal changes nothing. A value that is not admitted gives no price.
+// checked before the first payment, and a refusal changes nothing. A value that is not admitted gives no price, so `last` stands beside
+// it and not with it in a `Repricing`.
 pub fn settle_accounts<L: CashLedger>(
     accounts: &mut Table<'_, Account>,
     ledger: &mut L,

@@ -12,6 +12,7 @@ use positions::{Account, Trade};
 use table::{Full, Keyed, Stored, Table};
 
 // Whether the buyer and then the seller have places; else the first that has none.
+// The seller's place is reckoned as the book does it, to show that a caller can prove it of the table's promises alone.
 fn check_accounts(
     accounts: &Table<'_, Account>,
     limit: usize,
