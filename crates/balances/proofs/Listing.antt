@@ -2,7 +2,7 @@
 use Rattle.std.proofs.Common.{◌≡◌, ℕ, ◌+◌, ◌<◌, ◌≤◌, true, false, ◌||◌, eqb, List, [], ◌∷◌, ◌++◌, length, get_or, take, drop, Some, None, Ok, Err, fold, Result, sym, ap, ◌∙◌, inl, inr, arith}
 use Rattle.std.specs.Result.{result_unwrap_or}
 use Rattle.std.specs.List.{list_all}
-use Rattle.std.proofs.lemmas.List.{append-nil, append_assoc, length-append, take-append-drop, get_or_at}
+use Rattle.std.proofs.lemmas.List.{append-nil, append_assoc, length-append, length-take, length-take-le, take-append-drop, get_or_at}
 use Rattle.std.proofs.lemmas.List.Folds.{list_any-append}
 use Rattle.std.proofs.lemmas.List.Sums.{fold-append, fold_more}
 use Rattle.std.proofs.Math.Bool.{or_assoc, or-false}
@@ -49,6 +49,14 @@ has_folded : (xs seen : List ℕ) (a : ℕ) → has (fold add_new seen xs) a ≡
 has_folded [] seen a = sym (or-false (has seen a))
 has_folded (x ∷ xs) seen a =
     has_folded xs (add_new seen x) a ∙ ap (λ b. b || has xs a) (has-add seen x a) ∙ or_assoc (has seen a) (eqb x a) (has xs a)
+
+-- ---- an `Accounts`
+
+pub listed_le : (s : Accounts) → length (listed s) ≤ 64
+listed_le s = let k = s.fits in simp length-take (omega arith)
+
+pub listed_length : (s : Accounts) → length s.numbers ≡ 64 → length (listed s) ≡ s.count
+listed_length s n = let k = s.fits in length-take-le s.count s.numbers (omega arith)
 
 -- ---- refusals of a list
 

@@ -1,18 +1,18 @@
 -- The meaning of a cents layer over a ledger that means m, with the rests of its accounts in rows.
 use Rattle.std.specs.Prelude.{◌≡◌, ℕ, Bool, cond, not, ◌&&◌, List, ℤ, pos, ◌+ℤ◌, None, Option, int_lt}
-use Rattle.std.specs.Option.{option_and_then, option_map, unwrap_or}
+use Rattle.std.specs.Option.{option_and_then}
 use Rattle.ledger.specs.Limits.{farthest_balance}
 use Rattle.ledger.specs.declared.terms.Terms.{Terms}
 use Rattle.ledger.specs.Meaning.{Meaning, meaning}
 use Rattle.ledger.specs.Totals.{if_within}
 use Rattle.balances.specs.declared.rows.Row.{Row}
 use Rattle.balances.specs.Lists.{on_list}
-use Rattle.balances.specs.Lookup.{kept}
+use Rattle.balances.specs.Lookup.{kept, lookup}
 use Rattle.cents.specs.declared.rest.Rest.{Rest}
 
 -- an account's rest
 abbrev pub rest_of : List (Row Rest) → ℕ → ℕ
-rest_of rows a = unwrap_or (option_map (λ rest. rest.value) (kept rows a)) 0
+rest_of rows a = lookup (λ rest. rest.value) 0 rows a
 
 -- 100 above the lowest balance below is past the limit of balances
 unfoldable pub past : ℤ → Bool

@@ -6,7 +6,7 @@ ghost use Rattle.balances.specs.Lists.{Adds, has, list_fault};
 ghost use Rattle.balances.specs.Accounts.{Lists, listed};
 
 use super::Accounts;
-use arrayvec::ArrayVec;
+use crate::place::PLACES;
 use faults::{Fault, Refusal, require};
 use ledger::limits::is_admitted;
 
@@ -30,7 +30,8 @@ impl Accounts {
         ensures { listed result ≡ [] }
     {
         Accounts {
-            numbers: ArrayVec::new(),
+            numbers: [0; PLACES],
+            count: 0,
         }
     }
 
@@ -38,7 +39,7 @@ impl Accounts {
     pub fn numbers(&self) -> &[u32]
         ensures { result.now ≡ listed self.now }
     {
-        self.numbers.as_slice()
+        &self.numbers[..self.count]
     }
 
     // Whether an account is one of them.
@@ -55,8 +56,9 @@ impl Accounts {
         if self.has(account) {
             return Ok(());
         }
-        require(!self.numbers.is_full(), Refusal::NoAccountPlace.at(account))?;
-        self.numbers.push(account);
+        require(self.count < PLACES, Refusal::NoAccountPlace.at(account))?;
+        self.numbers[self.count] = account;
+        self.count += 1;
         Ok(())
     }
 

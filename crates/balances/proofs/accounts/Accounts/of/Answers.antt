@@ -3,7 +3,7 @@ use Rattle.std.proofs.lemmas.List.{take_all}
 use Rattle.std.proofs.lemmas.Result.{err_from_is_err_and}
 use Rattle.balances.specs.Accounts.{listed}
 use Rattle.balances.specs.Lists.{different}
-use Rattle.balances.proofs.Listing.{list_bad, list_good, list_full, sixty_fifth}
+use Rattle.balances.proofs.Listing.{list_bad, list_good, list_full, listed_le, sixty_fifth}
 use Rattle.balances.proofs.accounts.Accounts.of.Goals as goal
 
 pub returns-in_err-require : goal.returns-in_err-require
@@ -22,5 +22,5 @@ returns-in_err-add c =
 pub returns : goal.returns
 returns c =
     let e : listed c.loop-account.accounts ≡ different c.args.list.now = c.loop-account.invariant ∙ ap different (take_all _ _ c.loop-account-test.false) in
-    let n : length (different c.args.list.now) ≤ 64 = rw e at c.loop-account.accounts.fits in
+    let n : length (different c.args.list.now) ≤ 64 = rw e at (listed_le c.loop-account.accounts) in
     (list_good _ (sym c.are_admitted.ensures ∙ c.in_ok-require.ensures) n, e)
