@@ -1,7 +1,8 @@
 -- Records laid over the memory from its first place on.
-use Rattle.std.proofs.Common.{◌≡◌, ℕ, ◌<◌, ◌≤◌, true, List, length, take, drop, set, sym, ap, ◌∙◌, subst, arith}
+use Rattle.std.proofs.Common.{◌≡◌, ℕ, ◌<◌, ◌≤◌, true, List, ◌++◌, length, take, drop, set, sym, refl, ap, ◌∙◌, subst, arith}
 use Rattle.std.proofs.lemmas.Grind.{common_steps}
 use Rattle.std.proofs.lemmas.List.{length-append, length-drop, length-set, length-take-le, set-append_left, take-append-drop, take_at}
+use Rattle.std.proofs.lemmas.Slice.{drop-append-drop}
 use Rattle.table.specs.declared.keyed.Keyed.{Keyed}
 use Rattle.table.specs.declared.ordered.Table.{Table}
 use Rattle.table.specs.Rising.{rising}
@@ -46,3 +47,7 @@ module _ {V : Type 0} {before after ys : List (Keyed V)} {m : ℕ} (w : Lays bef
   -- the table's count and order, where the records rise
   pub now_sound : rising ys ≡ true → record { within : m ≤ length after; order : rising (take m after) ≡ true }
   now_sound up = record { within = subst (λ n. m ≤ n) (sym now_room) w.fits; order = subst (λ xs. rising xs ≡ true) (sym now_records) up }
+
+-- of records laid twice, the second count, where they are no fewer
+pub laid-laid : {V : Type 0} (xs ys ps : List (Keyed V)) → length xs ≤ length ys → laid ys (laid xs ps) ≡ laid ys ps
+laid-laid xs ys ps le = ap (λ rest. ys ++ rest) (drop-append-drop (length xs) ps xs (length ys) le refl)

@@ -1,5 +1,5 @@
 -- Keys that rise: put and take keep the order, and what it says of find.
-use Rattle.std.proofs.Common.{◌≡◌, ℕ, zero, suc, ◌<◌, ◌≤◌, true, List, [], ◌∷◌, map, take, Some, None, refl, ap, subst, arith}
+use Rattle.std.proofs.Common.{◌≡◌, ℕ, zero, suc, ◌<◌, ◌≤◌, true, List, [], ◌∷◌, map, set, take, Some, None, refl, ap, subst, arith}
 use Rattle.std.specs.List.{slice_get}
 use Rattle.std.proofs.lemmas.List.{take-take}
 use Rattle.std.proofs.lemmas.Bool.{and_parts}
@@ -103,6 +103,15 @@ module _ {V : Type 0} where
   find_nth zero x (y ∷ xs) h e = grind (arith, nat_tests)
   find_nth (suc i) x (y ∷ xs) h e =
       let ih = find_nth i x xs in
+      let up = above_nth y.key i x xs in
+      grind (arith, nat_tests)
+
+  -- a put of the key at a place writes to that place
+  pub put_nth : (i : ℕ) (x r : Keyed V) (xs : List (Keyed V)) → rising xs ≡ true → slice_get xs i ≡ Some x → r.key ≡ x.key → put_in r xs ≡ set xs i r
+  put_nth i x r [] h e same = grind (arith, nat_tests)
+  put_nth zero x r (y ∷ xs) h e same = grind (arith, nat_tests)
+  put_nth (suc i) x r (y ∷ xs) h e same =
+      let ih = put_nth i x r xs in
       let up = above_nth y.key i x xs in
       grind (arith, nat_tests)
 

@@ -6,7 +6,7 @@ use Rattle.std.proofs.lemmas.Bool.Decides.{nat_tests}
 use Rattle.std.proofs.lemmas.Option.{MatchOption-at_none, MatchOption-at_some, slice_get-get_or}
 use Rattle.table.specs.declared.keyed.Keyed.{Keyed}
 use Rattle.table.specs.declared.ordered.Stored.TheVariants.{Replaced, Added}
-use Rattle.table.specs.Places.{Stands, Lacks}
+use Rattle.table.specs.Places.{Stands, Lacks, Parted}
 use Rattle.table.specs.Records.{find_in, put_in, take_out}
 use Rattle.table.specs.View.{put_answer}
 
@@ -18,7 +18,8 @@ module _ {V : Type 0} (k : ℕ) where
   lacks_rest : (x : Keyed V) (xs : List (Keyed V)) (i : ℕ) → Lacks k (x ∷ xs) (suc i) → Lacks k xs i
   lacks_rest x xs i l = record {
     within = omega (arith, l.within);
-    parted = (λ j d lo hi. l.parted.0 (suc j) d (omega arith) (omega arith), λ j d lo hi. l.parted.1 (suc j) d (omega arith) (omega arith));
+    before = λ j d lo hi. l.before (suc j) d (omega arith) (omega arith);
+    here = λ h. l.here (omega arith);
   }
 
   pub find_stands : (xs : List (Keyed V)) (i : ℕ) → Stands k xs i → find_in k xs ≡ slice_get xs i
@@ -47,27 +48,27 @@ module _ {V : Type 0} (k : ℕ) where
 
   pub find_lacks : (xs : List (Keyed V)) (i : ℕ) → Lacks k xs i → find_in k xs ≡ None
   find_lacks [] i l = refl
-  find_lacks (x ∷ xs) zero l = let high = l.parted.1 0 x (omega arith) (omega arith) in grind (arith, nat_tests)
+  find_lacks (x ∷ xs) zero l = let high = l.here (omega arith) x in grind (arith, nat_tests)
   find_lacks (x ∷ xs) (suc i) l =
       let ih = find_lacks xs i (lacks_rest x xs i l) in
-      let low = l.parted.0 0 x (omega arith) (omega arith) in
+      let low = l.before 0 x (omega arith) (omega arith) in
       grind (arith, nat_tests)
 
   pub put_lacks : (r : Keyed V) (xs : List (Keyed V)) (i : ℕ) → r.key ≡ k → Lacks k xs i → put_in r xs ≡ insert xs i r
   put_lacks r [] zero e l = refl
   put_lacks r [] (suc i) e l = absurd (omega (arith, l.within))
-  put_lacks r (x ∷ xs) zero e l = let high = l.parted.1 0 x (omega arith) (omega arith) in grind (arith, nat_tests)
+  put_lacks r (x ∷ xs) zero e l = let high = l.here (omega arith) x in grind (arith, nat_tests)
   put_lacks r (x ∷ xs) (suc i) e l =
       let ih = put_lacks r xs i e (lacks_rest x xs i l) in
-      let low = l.parted.0 0 x (omega arith) (omega arith) in
+      let low = l.before 0 x (omega arith) (omega arith) in
       grind (arith, nat_tests)
 
   pub take_lacks : (xs : List (Keyed V)) (i : ℕ) → Lacks k xs i → take_out k xs ≡ xs
   take_lacks [] i l = refl
-  take_lacks (x ∷ xs) zero l = let high = l.parted.1 0 x (omega arith) (omega arith) in grind (arith, nat_tests)
+  take_lacks (x ∷ xs) zero l = let high = l.here (omega arith) x in grind (arith, nat_tests)
   take_lacks (x ∷ xs) (suc i) l =
       let ih = take_lacks xs i (lacks_rest x xs i l) in
-      let low = l.parted.0 0 x (omega arith) (omega arith) in
+      let low = l.before 0 x (omega arith) (omega arith) in
       grind (arith, nat_tests)
 
   pub holds_stands : (xs : List (Keyed V)) (i : ℕ) → Stands k xs i → is_some (find_in k xs) ≡ true
@@ -75,11 +76,11 @@ module _ {V : Type 0} (k : ℕ) where
   holds_stands (x ∷ xs) i s = ap is_some (find_stands (x ∷ xs) i s ∙ slice_get-get_or (x ∷ xs) i x s.within)
 
   -- what a search says whose place alone is kept
-  module _ (xs : List (Keyed V)) (r : Result ℕ ℕ) (found : MatchResult r (Stands k xs) (Lacks k xs)) (o : Option ℕ) (so : o ≡ result_ok r) where
+  module _ (xs : List (Keyed V)) (r : Result ℕ ℕ) (found : MatchResult r (Stands k xs) (Parted k xs)) (o : Option ℕ) (so : o ≡ result_ok r) where
     sought : MatchOption (result_ok r) ((find_in k xs ≡ None) × (take_out k xs ≡ xs)) (Stands k xs)
-    sought = elim r as (λ r. MatchResult r (Stands k xs) (Lacks k xs) → MatchOption (result_ok r) ((find_in k xs ≡ None) × (take_out k xs ≡ xs)) (Stands k xs)) [
+    sought = elim r as (λ r. MatchResult r (Stands k xs) (Parted k xs) → MatchOption (result_ok r) ((find_in k xs ≡ None) × (take_out k xs ≡ xs)) (Stands k xs)) [
       | Ok i ↦ λ s. s
-      | Err i ↦ λ l. (find_lacks xs i l, take_lacks xs i l)
+      | Err i ↦ λ p. (find_lacks xs i p.lacks, take_lacks xs i p.lacks)
     ] found
 
     pub place_kept : (i : ℕ) → o ≡ Some i → Stands k xs i

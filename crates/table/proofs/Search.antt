@@ -7,7 +7,7 @@ use Rattle.std.proofs.lemmas.Bool.Decides.{nat_tests}
 use Rattle.std.proofs.lemmas.Cmp.{ranked}
 use Rattle.std.proofs.lemmas.List.Recursion.{and_at}
 use Rattle.table.specs.declared.keyed.Keyed.{Keyed}
-use Rattle.table.specs.Places.{Stands, Lacks}
+use Rattle.table.specs.Places.{Stands, Parted}
 use Rattle.table.specs.Rising.{above, rising}
 
 module _ {V : Type 0} where
@@ -27,13 +27,13 @@ module _ {V : Type 0} where
         let keys : (get_or xs i d).key ≤ (get_or xs j d).key = grind (arith, keys_rise xs i j d up, λ (same : i ≡ j). ap (λ n. (get_or xs n d).key) same) in
         grind (arith, nat_tests)
 
-    pub searched : (r : Result ℕ ℕ) → IsSearchInRange r (length xs) → IsBinarySearchResult (λ x. nat_cmp x.key k) xs r → MatchResult r (Stands k xs) (Lacks k xs)
+    pub searched : (r : Result ℕ ℕ) → IsSearchInRange r (length xs) → IsBinarySearchResult (λ x. nat_cmp x.key k) xs r → MatchResult r (Stands k xs) (Parted k xs)
     searched (Ok i) in' equal = record {
       within = in';
       before = λ j d lo hi. let here = ranked _ k _ (sym (equal d)) in let low = keys_rise xs j i d up hi in' in omega arith;
       here = λ d. ranked _ k _ (sym (equal d));
     }
-    searched (Err i) in' parted = record {
-      within = in';
-      parted = (λ j d lo hi. ranked _ k _ (sym ((parted comparisons_rise).0 j d lo hi)), λ j d lo hi. ranked _ k _ (sym ((parted comparisons_rise).1 j d lo hi)));
-    }
+    searched (Err i) in' parted =
+        let low = λ (j : ℕ) (d : Keyed V) (lo : 0 ≤ j) (hi : j < i). ranked _ k _ (sym ((parted comparisons_rise).0 j d lo hi)) in
+        let high = λ (j : ℕ) (d : Keyed V) (lo : i ≤ j) (hi : j < length xs). ranked _ k _ (sym ((parted comparisons_rise).1 j d lo hi)) in
+        record { lacks = record { within = in'; before = low; here = λ h d. high i d (omega arith) h }; parted = (low, high) }

@@ -10,7 +10,13 @@ pub record Stands {V : Type 0} (k : ℕ) (xs : List (Keyed V)) (i : ℕ) : Type 
   pub before : AllWithin (λ x. x.key < k) xs 0 i
   pub here : HoldsAt (λ x. x.key ≡ k) xs i
 
--- no record has the key k: lower keys stand before the place i, and higher ones from it on
+-- no record has the key k: lower keys stand before the place i, and a higher one there if any
 pub record Lacks {V : Type 0} (k : ℕ) (xs : List (Keyed V)) (i : ℕ) : Type 0 where
   pub within : i ≤ length xs
+  pub before : AllWithin (λ x. x.key < k) xs 0 i
+  pub here : i < length xs → HoldsAt (λ x. k < x.key) xs i
+
+-- the same, and higher keys stand from the place on
+pub record Parted {V : Type 0} (k : ℕ) (xs : List (Keyed V)) (i : ℕ) : Type 0 where
+  pub lacks : Lacks k xs i
   pub parted : IsPartitionPoint (λ x. x.key < k) (λ x. k < x.key) xs i

@@ -1,7 +1,7 @@
 // Making a table, and the calls that only read it.
 ghost use Rattle.std.specs.Prelude.{◌≡◌, ◌≤◌, min, [], length, MatchResult};
 ghost use Rattle.std.specs.List.{slice_get};
-ghost use Rattle.table.specs.Places.{Lacks, Stands};
+ghost use Rattle.table.specs.Places.{Parted, Stands};
 ghost use Rattle.table.specs.Records.{find_in};
 ghost use Rattle.table.specs.View.{memory, place_for, records, room};
 
@@ -51,7 +51,7 @@ impl<'a, V: Copy> Table<'a, V> {
 
     // The place of the record of a key, or else the place where it would stand.
     pub(super) fn seek(&self, key: u32) -> Result<usize, usize>
-        ensures { MatchResult result (Stands key (records self.now)) (Lacks key (records self.now)) }
+        ensures { MatchResult result (Stands key (records self.now)) (Parted key (records self.now)) }
     {
         self.records()
             .binary_search_by_key(&key, |record| record.key)

@@ -43,13 +43,13 @@ pub returns-then-self-clause-answer : goal.returns-then-self-clause-answer
 returns-then-self-clause-answer g c =
     let t = c.args.self.now in
     let n = length-records t in
-    sym (put_full (room t) c.args.incoming (records t) c.in-Err.place c.in-Err.ensures (omega arith))
+    sym (put_full (room t) c.args.incoming (records t) c.in-Err.place c.in-Err.ensures.lacks (omega arith))
 
 pub returns-else-self-clause-answer : goal.returns-else-self-clause-answer
 returns-else-self-clause-answer g c =
     let t = c.args.self.now in
     let n = length-records t in
-    sym (put_adds (room t) c.args.incoming (records t) c.in-Err.place c.in-Err.ensures (omega (arith, t.within, c.if-self.false)))
+    sym (put_adds (room t) c.args.incoming (records t) c.in-Err.place c.in-Err.ensures.lacks (omega (arith, t.within, c.if-self.false)))
 
 pub returns-else-self-clause-law : goal.returns-else-self-clause-law
 returns-else-self-clause-law g c = λ _. after_put c.args.incoming (records c.args.self.now) _ c.insert.ensures.records
