@@ -11,8 +11,7 @@ use faults::{Fault, Refusal, require};
 use positions::{Account, Trade};
 use table::{Full, Keyed, Stored, Table};
 
-// Whether the buyer and then the seller have places; else the first that has none.
-// The seller's place is reckoned as the book does it, to show that a caller can prove it of the table's promises alone.
+// Whether the buyer and then the seller have places, of those that are free; else the first that has none.
 fn check_accounts(
     accounts: &Table<'_, Account>,
     limit: usize,
@@ -21,14 +20,18 @@ fn check_accounts(
 ) -> Result<(), Fault>
     ensures { result ≡ accounts_answer (min (room accounts.now) limit) buyer seller (records accounts.now) }
 {
-    let places = accounts.capacity().min(limit);
+    let free = accounts
+        .capacity()
+        .min(limit)
+        .saturating_sub(accounts.count());
+    let buyer_new = accounts.find(buyer.key).is_none();
+    let seller_new = accounts.find(seller.key).is_none() & (buyer.key != seller.key);
     require(
-        accounts.has_place(buyer.key, places),
+        !buyer_new | (free > 0),
         Refusal::NoAccountPlace.at(buyer.key),
     )?;
-    let taken = usize::from(accounts.find(buyer.key).is_none());
     require(
-        (seller.key == buyer.key) | accounts.has_place(seller.key, places - taken),
+        !seller_new | (free > usize::from(buyer_new)),
         Refusal::NoAccountPlace.at(seller.key),
     )
 }

@@ -1,5 +1,4 @@
-use Rattle.std.proofs.Common.{◌≡◌, ℕ, ◌≤◌, Bool, true, false, cond, List, [], ◌∷◌, ◌++◌, length, is_ok, Err, sym, refl, ap, ◌∙◌, arith}
-use Rattle.std.proofs.lemmas.Slice.{drop-append-drop}
+use Rattle.std.proofs.Common.{◌≡◌, ℕ, ◌≤◌, Bool, true, false, cond, List, [], ◌∷◌, length, is_ok, Err, sym, ap, ◌∙◌, arith}
 use Rattle.std.proofs.lemmas.Result.{err_from_is_err_and}
 use Rattle.faults.specs.declared.Fault.{Fault}
 use Rattle.faults.specs.declared.Refusal.TheVariants.{NoTradePlace}
@@ -11,6 +10,7 @@ use Rattle.table.specs.declared.keyed.Keyed.{Keyed}
 use Rattle.table.specs.Records.{put_in}
 use Rattle.table.specs.View.{laid, place_for, records}
 use Rattle.table.proofs.Laws.{length-put}
+use Rattle.table.proofs.Memory.{laid-laid}
 use Rattle.table_tests.specs.Entering.{accounts_checks, accounts_answer, enter_answer}
 use Rattle.table_tests.proofs.enter.Goals as goal
 
@@ -24,10 +24,6 @@ returns-in_err-check_accounts-clause-answer c =
     let p = err_from_is_err_and c.from_residual.result c.from_residual.ensures.1 in
     rw (p.1, p.2) (unseated _ _ c.args.buyer c.args.seller c.args.trade (records c.args.accounts.now) (records c.args.trades.now) _ c.in_err-check_accounts.ensures)
 
--- records laid over those laid before, which are no more
-laid_again : (xs ys ps : List (Keyed Account)) → length xs ≤ length ys → laid ys (laid xs ps) ≡ laid ys ps
-laid_again xs ys ps h = ap (λ rest. ys ++ rest) (drop-append-drop (length xs) ps xs (length ys) h refl)
-
 longer : (put : Bool) (r : Keyed Account) (xs : List (Keyed Account)) → length xs ≤ length (cond put (put_in r xs) xs)
 longer true r xs = let l = length-put r xs in omega arith
 longer false r xs = omega arith
@@ -37,4 +33,4 @@ returns-clause-memories c =
     let one = records c.put.new.self in
     let two = records c.put-2.new.self in
     let more : length one ≤ length two = rw c.put-2.ensures.records (longer (is_ok c.put-2.result) c.args.seller one) in
-    (c.put-2.ensures.memory ∙ ap (laid two) c.put.ensures.memory ∙ laid_again one two _ more, c.put-3.ensures.memory)
+    (c.put-2.ensures.memory ∙ ap (laid two) c.put.ensures.memory ∙ laid-laid one two _ more, c.put-3.ensures.memory)
