@@ -1,9 +1,18 @@
 // The quotient n / d, rounded.
 ghost use Rattle.std.specs.Prelude.{◌≡◌, ◌+◌, ◌*◌, ◌^◌, ◌<◌, ◌≤◌, unsigned_abs};
-ghost use Rattle.prices.specs.Rounding.{nearest as nearest_of, nearestℤ};
+ghost use Rattle.prices.specs.Rounding.{nearest as nearest_of, nearestℤ, up as up_of};
 
 // The divisor is a plain number above 0. Of a NonZeroU64 each caller would have to answer the None that making one may give, and a
 // type of this crate would be made at each call, of one of two widths, and taken apart at once.
+
+// The least whole number not below n / d.
+#[tactic(auto, using(crate::proofs::Quotients::up_is))]
+pub(crate) fn up(n: u64, d: u64) -> u64
+    requires { 0 < d }
+    ensures { result ≡ up_of n d }
+{
+    n.div_ceil(d)
+}
 
 // The nearest whole number to n / d, halves up.
 pub(crate) fn nearest(n: u64, d: u64) -> u64

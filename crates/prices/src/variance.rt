@@ -2,7 +2,7 @@
 ghost use Rattle.std.specs.Prelude.{◌≡◌, ◌+◌, ◌-◌, ◌*◌, ◌<◌, ◌≤◌, Some, None};
 ghost use Rattle.prices.specs.Variance.{volatility as volatility_of, variance_at, realised as realised_of, units as units_of};
 
-use crate::rounding::nearest;
+use crate::rounding::{nearest, up};
 use quantities::{ExpectedValues, Tick, Vega};
 
 // Trading days in a year, over which daily squares are a yearly variance.
@@ -55,7 +55,6 @@ impl Returns {
     }
 
     // The units of a trade, or none where no return is to come.
-    #[tactic(auto, using(crate::proofs::Quotients::up_is))]
     pub fn units(self, vega: Vega, tick: Tick) -> Option<u64>
         ensures { elim result [ None ↦ self.count + 1 ≡ self.expected.value | Some x ↦ (self.count + 1 < self.expected.value) × (x ≡ units_of self.expected.value self.count vega.value tick.value) ] }
     {
@@ -64,7 +63,7 @@ impl Returns {
             return None;
         }
         let vega = u64::from(vega.value) * HALF_VEGA * self.expected_returns();
-        Some(vega.div_ceil(volatility(tick) * to_come))
+        Some(up(vega, volatility(tick) * to_come))
     }
 
     // v squared for each return to come.
