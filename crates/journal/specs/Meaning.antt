@@ -17,9 +17,12 @@ lines_of j = lines_in j.words.now j.lines
 abbrev pub from_to : ℕ → ℕ → ℕ → Bool
 from_to first last a = (admitted first && admitted last) && (nat_le first a && nat_le a last)
 
--- an account's balance is the sum of its lines
+-- an account's balance is the sum of its lines, n of the words ws
+abbrev pub total_in : List ℕ → ℕ → ℕ → ℕ → ℕ → Option ℤ
+total_in ws n first last a = cond (from_to first last a) (if_within (due (lines_in ws n) a)) None
+
 abbrev pub total_of : Journal → ℕ → Option ℤ
-total_of j a = cond (from_to j.first j.last a) (if_within (due (lines_of j) a)) None
+total_of j = total_in j.words.now j.lines j.first j.last
 
 -- the lines left
 abbrev pub capacity_of : Journal → ℕ

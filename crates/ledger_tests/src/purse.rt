@@ -18,7 +18,7 @@ pub struct Purse {
 impl BalanceReader for Purse {
     ghost balances = { balances_of };
 
-    ghost sound = { purse_sound };
+    ghost sound = { purse_sound (λ p. p.account) (λ p. p.balance.value) (λ p. p.balance.within) };
 
     fn balance(&self, account: u32) -> Option<i64> {
         (account == self.account).then_some(self.balance.value)

@@ -81,7 +81,7 @@ impl<'a> Journal<'a> {
 impl<'a> BalanceReader for Journal<'a> {
     ghost balances = { total_of };
 
-    ghost sound = { journal_sound };
+    ghost sound = { journal_sound (λ s. s.words.now) (λ s. s.lines) (λ s. s.first) (λ s. s.last) };
 
     fn balance(&self, account: u32) -> Option<i64> {
         if !self.spans(account) {
