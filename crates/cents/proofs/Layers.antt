@@ -95,7 +95,7 @@ terms_told s t l low high e m =
 -- ---- a payment that the layer's terms take
 
 -- either way the ledger below is raised by the whole cents
-below_raised : (t : Bool) (m : Meaning) (a : ℕ) (c : ℤ) (n : Meaning) → is_zero c ≡ t → Below t m a c n → Raised m a (c *ℤ pos 100) n
+pub below_raised : (t : Bool) (m : Meaning) (a : ℕ) (c : ℤ) (n : Meaning) → is_zero c ≡ t → Below t m a c n → Raised m a (c *ℤ pos 100) n
 below_raised false m a c n e r = r
 below_raised true m a c n e s =
     let z = zero_is c e in

@@ -39,7 +39,7 @@ module _ (j k : Journal) (p : Payment) (b : ℤ) (e : total_of j p.account ≡ S
   room : j.lines < length j.words.now / 4
   room = omega (arith, t.room)
 
-  lines_after : lines_of k ≡ lines_of j ++ (p ∷ [])
+  pub lines_after : lines_of k ≡ lines_of j ++ (p ∷ [])
   lines_after = rw (more.words, more.lines) (lines_written j.words.now j.lines p room (small j p.account b e) fits)
 
   same_accounts : (a : ℕ) → from_to k.first k.last a ≡ from_to j.first j.last a

@@ -54,9 +54,12 @@ module _ (m : Meaning) (last F : ℤ) where
 
   -- ---- what passed rows say of the payments
 
-  all_owed : (xs : List (Keyed Account)) → Passes (map units_check xs) → Passes (map (balance_check m last F) xs) → map (owed last F) xs ≡ payments last F xs
-  all_owed [] u r = refl
-  all_owed (x ∷ xs) u r = rw (owed_within last F x (units_passed x u.0) (balance_passed x r.0).0, all_owed xs u.1 r.1)
+  each_owed : (xs : List (Keyed Account)) → Passes (map units_check xs) → Passes (map (balance_check m last F) xs) → map (owed last F) xs ≡ payments last F xs
+  each_owed [] u r = refl
+  each_owed (x ∷ xs) u r = rw (owed_within last F x (units_passed x u.0) (balance_passed x r.0).0, each_owed xs u.1 r.1)
+
+  pub all_owed : (xs : List (Keyed Account)) → first_fault (map units_check xs) ≡ None → first_fault (map (balance_check m last F) xs) ≡ None → map (owed last F) xs ≡ payments last F xs
+  all_owed xs u r = each_owed xs (all_pass _ u) (all_pass _ r)
 
   pub owed_row : (xs : List (Keyed Account)) → Passes (map units_check xs) → map (owed_check m last F) xs ≡ map (balance_check m last F) xs
   owed_row [] u = refl
@@ -95,11 +98,14 @@ module _ (m : Meaning) (last F : ℤ) where
       units_among fault u = kinds ∙ rw (k, u)
 
       module _ (u : first_fault (map units_check xs) ≡ None) where
-        pub range_among : (fault : Fault) → first_fault (map (owed_check m last F) xs) ≡ Some fault → first_fault (pay_checks m last (Some F) xs) ≡ Some fault
-        range_among fault r = let b = rw (owed_row xs (all_pass _ u)) at r in kinds ∙ rw (k, u, b)
+        pub range_among : (fault : Fault) → first_fault (map (balance_check m last F) xs) ≡ Some fault → first_fault (pay_checks m last (Some F) xs) ≡ Some fault
+        range_among fault r = kinds ∙ rw (k, u, r)
+
+        pub owed_among : (fault : Fault) → first_fault (map (owed_check m last F) xs) ≡ Some fault → first_fault (pay_checks m last (Some F) xs) ≡ Some fault
+        owed_among fault r = range_among fault (rw (owed_row xs (all_pass _ u)) at r)
 
         pub last_among : first_fault (map (owed_check m last F) xs) ≡ None → first_fault (pay_checks m last (Some F) xs) ≡ first_fault (capacity_check m (map (owed last F) xs) ∷ [])
-        last_among r = let b = rw (owed_row xs (all_pass _ u)) at r in kinds ∙ rw (k, u, b, all_owed xs (all_pass _ u) (all_pass _ b))
+        last_among r = let b = rw (owed_row xs (all_pass _ u)) at r in kinds ∙ rw (k, u, b, all_owed xs u b)
 
     -- what is left once all have passed
     module _ (ok : first_fault (pay_checks m last (Some F) xs) ≡ None) where
@@ -116,7 +122,7 @@ module _ (m : Meaning) (last F : ℤ) where
       capacity_none = (none_both (first_fault (map (balance_check m last F) xs)) _ (none_both (first_fault (map units_check xs)) _ (none_both (first_fault (map (account_check m last F) xs)) _ (sym kinds ∙ ok)).1).1).1
 
       pub owed_all : map (owed last F) xs ≡ payments last F xs
-      owed_all = all_owed xs (all_pass _ units_none) (all_pass _ range_none)
+      owed_all = all_owed xs units_none range_none
 
       pub never_refused : rising xs ≡ true → fault_of_all m (map (owed last F) xs) ≡ None
       never_refused up =
