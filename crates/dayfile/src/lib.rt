@@ -12,8 +12,9 @@ mod sheets;
 mod texts;
 mod words;
 
+pub use balances::accounts::Accounts;
 pub use file_fault::{Cause, FileFault};
 pub use lines::Line;
 pub use reader::{Item, Placed, Reader};
-pub use runs::Day;
+pub use runs::{Day, run};
 pub use texts::{Accumulated, Decimal, Money};

@@ -1,5 +1,6 @@
 // The run over a whole day file.
 ghost use Rattle.std.specs.Prelude.{◌≡◌, []};
+ghost use Rattle.balances.specs.Accounts.{listed};
 ghost use Rattle.contract.specs.Step.{unlisted};
 ghost use Rattle.dayfile.specs.Runs.{state, state_of, Acts, Serves, Finished};
 
@@ -10,6 +11,7 @@ use crate::reader::{Item, Placed, Reader};
 use balances::accounts::Accounts;
 use contract::Contract;
 use std::alloc::Global;
+use std::mem;
 
 // What a run changes: the contract, the accounts noted for its balance table, and the lines of the sheet.
 #[derive(Drop)]
@@ -70,4 +72,31 @@ impl Day {
         }
         Ok(())
     }
+}
+
+// The same over parts that are lent apart: they are the day's while it runs.
+pub fn run(
+    bytes: &[u8],
+    contract: &mut Contract,
+    accounts: &mut Accounts,
+    lines: &mut Vec<Line>,
+) -> Result<(), FileFault>
+    ensures { Finished bytes.now (state contract.old.figures (listed accounts.old) lines.old.items) result (state contract.new.figures (listed accounts.new) lines.new.items) }
+{
+    let none = Vec::new(*lines.allocator());
+    let mut day = Day {
+        contract: mem::replace(contract, Contract::new()),
+        accounts: *accounts,
+        lines: mem::replace(lines, none),
+    };
+    let end = day.run(bytes);
+    let Day {
+        contract: ran,
+        accounts: noted,
+        lines: written,
+    } = day;
+    *contract = ran;
+    *accounts = noted;
+    *lines = written;
+    end
 }
