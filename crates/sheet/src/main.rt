@@ -14,10 +14,12 @@ fn print_sheet(rt: &HostRuntime) -> anyhow::Result<()> {
         .read_to_end(&mut bytes)?;
     let mut day = Day::new(rt.alloc());
     let end = day.run(&bytes);
-    if end.is_err_and(|fault| fault.cause == Cause::Memory) {
+    let lacks_memory = end.is_err_and(|fault| fault.cause == Cause::Memory);
+    // A sheet that is cut short is not printed, but first made: where that fails too, that is what went wrong.
+    let sheet = day.sheet(rt.alloc(), if lacks_memory { Ok(()) } else { end })?;
+    if lacks_memory {
         return Err(anyhow!("no memory for the lines of the sheet"));
     }
-    let sheet = day.sheet(rt.alloc(), end)?;
     rt.stdout().write_all(sheet.as_bytes())?;
     Ok(())
 }
