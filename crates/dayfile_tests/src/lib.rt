@@ -3,7 +3,7 @@
 
 #[cfg(test)]
 mod tests {
-    use dayfile::{Accumulated, Day, Money};
+    use dayfile::{Accumulated, Day, Money, run};
     use std::alloc::AllocGlobal;
     use std::process::Abort;
     use std::test::*;
@@ -178,6 +178,32 @@ mod tests {
         ];
         expect(&rt, &words, "C 0 1000.0000 0.00000000\nR 7 close 41 0\n")?;
         expect(&rt, &[0x35F5_E100], "R 0 open 31 0\n")
+    }
+
+    // A run over parts that are lent apart goes on where the one before it ended.
+    #[test]
+    fn lent_parts(rt: HostRuntime) -> Result<(), Fail> {
+        let mut day = Day::new(rt.alloc());
+        let account = [0xB0, 0, 0, 5];
+        let named = run(
+            &account,
+            &mut day.contract,
+            &mut day.accounts,
+            &mut day.lines,
+        );
+        assert!(rt; named.is_ok());
+        let words = [
+            0x10, 0, 0, 3, 0x20, 0x3D, 9, 0, 0x35, 0xF5, 0xE1, 0, 0x70, 0, 0x27, 0x10, 0x80, 0x64,
+            1, 0x90, 0xB0, 0, 0, 6,
+        ];
+        let end = run(&words, &mut day.contract, &mut day.accounts, &mut day.lines);
+        let text = day.sheet(rt.alloc(), end)?;
+        assert_eq!(rt;
+            text.as_str(),
+            "C 0 1000.0000 0.00000000\nR 5 account 31 0\n"
+        );
+        assert_eq!(rt; day.accounts.numbers(), [5].as_slice());
+        Ok(())
     }
 
     fn expect_texts(

@@ -12,7 +12,7 @@ units_small x h = (grind (arith, nat_tests), grind (arith, nat_tests))
 pub cost_small : (x : Account) → cost_within x ≡ true → unsigned_abs x.cost ≤ 4000000000000000000
 cost_small x h = grind (arith, nat_tests)
 
-product_most : (a b : ℤ) (m n : ℕ) → unsigned_abs a ≤ m → unsigned_abs b ≤ n → unsigned_abs (a *ℤ b) ≤ m * n
+pub product_most : (a b : ℤ) (m n : ℕ) → unsigned_abs a ≤ m → unsigned_abs b ≤ n → unsigned_abs (a *ℤ b) ≤ m * n
 product_most a b m n h k = rw unsigned_abs-mul (mul-le-mul h k)
 
 pub gain_small : (x : Account) (from to : ℤ) → units_within x ≡ true → unsigned_abs from ≤ 3400000000 → unsigned_abs to ≤ 3400000000 → unsigned_abs (x.units_at_close *ℤ (to -ℤ from)) ≤ 1000000000000000
